@@ -1,0 +1,23 @@
+use mathlib.Core.Path.{refl, ap, _∙_}
+use Rattle.networks.specs.Networks.{network}
+use Rattle.networks.specs.Rounds.{rounds, swapped}
+use Rattle.networks.proofs.Steps.{rounds-more, rounds-all}
+use Rattle.networks.proofs.feistel.Feistel.run.Needs as need
+
+pub loop-word-holds : need.loop-word-holds
+loop-word-holds g c = refl
+
+pub loop-word-again : need.loop-word-again
+loop-word-again g c =
+    rounds-more (network (g .G·Group) (g .F·RoundFunction) (c .args .self .now))
+    (c .round-words-word-items .result .now) (c .loop-word .word-index) (c .loop-word .state) (c .round-state .result) _
+    (c .loop-word-test .taken) (c .round-state .ensures) (c .loop-word .inv)
+
+pub returns : need.returns
+returns g c =
+    let N = network (g .G·Group) (g .F·RoundFunction) (c .args .self .now) in
+    let words = c .round-words-word-items .result .now in
+    let done = rounds-all N words (c .loop-word .word-index) (c .loop-word .state) _ (c .loop-word-test .left) (c .loop-word .inv) in
+    record {
+      value = c .swap .ensures ∙ ap swapped (done ∙ ap (λ l. rounds N l (c .args .halves)) (c .round-words-word-items .ensures));
+    }

@@ -1,0 +1,3 @@
+pub mod Networks
+pub mod Rounds
+pub mod Schedules
