@@ -1,5 +1,6 @@
 // What a group of words is, with the laws that each implementation owes.
 ghost use mathlib.Core.Path.{_≡_};
+ghost use Rattle.groups.specs.Laws.{Lawful};
 use crate::words::Word;
 
 pub trait Group {
@@ -14,24 +15,10 @@ pub trait Group {
 
     ghost inverted: { Self·Word → Self·Word };
 
-    // the neutral word, a join of words and an inverse of a word are words
-    law neutral_fits: { Word·Word .fits neutral };
+    // what each implementation shows
+    law lawful: { Lawful (Word·Word .fits) neutral joined inverted };
 
-    law join_fits: { (x y : Self·Word) → Word·Word .fits x → Word·Word .fits y → Word·Word .fits (joined x y) };
-
-    law inverse_fits: { (x : Self·Word) → Word·Word .fits x → Word·Word .fits (inverted x) };
-
-    law associative: { (x y z : Self·Word) → Word·Word .fits x → Word·Word .fits y → Word·Word .fits z → joined (joined x y) z ≡ joined x (joined y z) };
-
-    law neutral_left: { (x : Self·Word) → Word·Word .fits x → joined neutral x ≡ x };
-
-    law neutral_right: { (x : Self·Word) → Word·Word .fits x → joined x neutral ≡ x };
-
-    law inverse_left: { (x : Self·Word) → Word·Word .fits x → joined (inverted x) x ≡ neutral };
-
-    law inverse_right: { (x : Self·Word) → Word·Word .fits x → joined x (inverted x) ≡ neutral };
-
-    // the constant, as a value that contracts can speak of
+    // The constant, as a value that contracts can speak of.
     fn unit() -> Self::Word
         ensures { λ r. ⌜ r ≡ neutral ⌝ };
 

@@ -3,22 +3,13 @@ use mathlib.Core.Path.{_≡_, refl, sym, ap, ap₂, _∙_}
 use mathlib.Core.Bool.{Bool, true, false, not, cond}
 use mathlib.Core.List.{List, [], _∷_, _++_, reverse, reverse-cons, reverse-reverse}
 use Prim.Native.Nat.{ℕ}
+use Rattle.groups.specs.Laws.{Lawful}
 use Rattle.networks.specs.declared.pairs.Halves.{Halves}
-use Rattle.networks.specs.Rounds.{Network, swapped, applied, round, rounds, unround, unrounds, ran, unran, turned}
+use Rattle.networks.specs.Rounds.{Network, swapped, applied, round, rounds, unround, unrounds, ran, unran, turned, Words, Inverses}
 use Rattle.networks.proofs.Steps.{rounds-none, rounds-cons, rounds-push, unrounds-none, unrounds-cons}
 
--- the group of a network is lawful on the words that fit, and its round function gives words
-pub record Lawful {W : Type 0} (fits : W → Type 0) (neutral : W) (N : Network W) : Type 0 where
-  pub join-fits : (x y : W) → fits x → fits y → fits (N .joined x y)
-  pub inverse-fits : (x : W) → fits x → fits (N .inverted x)
-  pub associative : (x y z : W) → fits x → fits y → fits z → N .joined (N .joined x y) z ≡ N .joined x (N .joined y z)
-  pub neutral-left : (x : W) → fits x → N .joined neutral x ≡ x
-  pub neutral-right : (x : W) → fits x → N .joined x neutral ≡ x
-  pub inverse-left : (x : W) → fits x → N .joined (N .inverted x) x ≡ neutral
-  pub inverse-right : (x : W) → fits x → N .joined x (N .inverted x) ≡ neutral
-  pub value-fits : (half : W) (word : ℕ) → fits (N .function half word)
-
-module _ {W : Type 0} {fits : W → Type 0} {neutral : W} (N : Network W) (laws : Lawful fits neutral N) where
+-- over a lawful group, and a round function whose values are words
+module _ {W : Type 0} {fits : W → Type 0} {neutral : W} (N : Network W) (laws : Lawful fits neutral (N .joined) (N .inverted)) (values : (half : W) (word : ℕ) → fits (N .function half word)) where
   -- a word is the inverse of its inverse
   double-inverse : (x : W) → fits x → N .inverted (N .inverted x) ≡ x
   double-inverse x p =
@@ -34,7 +25,7 @@ module _ {W : Type 0} {fits : W → Type 0} {neutral : W} (N : Network W) (laws 
   opposed : (a : W) (k : ℕ) → N .inverted (applied N a k) ≡ applied (turned N) a k
   opposed a k =
       elim (N .inverting) as (λ b. N .inverted (cond b (N .inverted (N .function a k)) (N .function a k)) ≡ cond (not b) (N .inverted (N .function a k)) (N .function a k))
-      [ true ↦ double-inverse _ (laws .value-fits a k) | false ↦ refl ]
+      [ true ↦ double-inverse _ (values a k) | false ↦ refl ]
 
   -- one undone round, and one round of the turned network with the halves swapped
   step : (k : ℕ) (h : Halves W) → unround N k (swapped h) ≡ swapped (round (turned N) k h)
@@ -55,7 +46,7 @@ module _ {W : Type 0} {fits : W → Type 0} {neutral : W} (N : Network W) (laws 
   applied-fits : (a : W) (k : ℕ) → fits (applied N a k)
   applied-fits a k =
       elim (N .inverting) as (λ b. fits (cond b (N .inverted (N .function a k)) (N .function a k)))
-      [ true ↦ laws .inverse-fits _ (laws .value-fits a k) | false ↦ laws .value-fits a k ]
+      [ true ↦ laws .inverse-fits _ (values a k) | false ↦ values a k ]
 
   -- a round and its undoing
   unround-round : (k : ℕ) (h : Halves W) → fits (h .left) → unround N k (round N k h) ≡ h
@@ -64,8 +55,8 @@ module _ {W : Type 0} {fits : W → Type 0} {neutral : W} (N : Network W) (laws 
       let q = applied-fits (h .right) k in
       ap (λ l. record { left = l; right = h .right })
       (laws .associative (h .left) x (N .inverted x) p q (laws .inverse-fits x q)
-       ∙ ap (N .joined (h .left)) (laws .inverse-right x q)
-       ∙ laws .neutral-right (h .left) p)
+      ∙ ap (N .joined (h .left)) (laws .inverse-right x q)
+      ∙ laws .neutral-right (h .left) p)
 
   unrounds-rounds : (ks : List ℕ) (h : Halves W) → fits (h .left) → fits (h .right) → unrounds N ks (rounds N ks h) ≡ h
   unrounds-rounds [] h p q = unrounds-none N _ ∙ rounds-none N h
@@ -75,17 +66,17 @@ module _ {W : Type 0} {fits : W → Type 0} {neutral : W} (N : Network W) (laws 
       ∙ ap (unround N k) (unrounds-rounds ks (round N k h) q (laws .join-fits _ _ p (applied-fits (h .right) k)))
       ∙ unround-round k h p
 
-  pub there-and-back : (h : Halves W) → fits (h .left) → fits (h .right) → ran (turned N) (ran N h) ≡ h
-  there-and-back h p q = sym (ways-back (ran N h)) ∙ unrounds-rounds (N .words) h p q
+  pub there-and-back : (h : Halves W) → Words fits h → ran (turned N) (ran N h) ≡ h
+  there-and-back h p = sym (ways-back (ran N h)) ∙ unrounds-rounds (N .words) h (p .0) (p .1)
 
-  rounds-fits : (ks : List ℕ) (h : Halves W) → fits (h .left) → fits (h .right) → fits (rounds N ks h .left) × fits (rounds N ks h .right)
+  rounds-fits : (ks : List ℕ) (h : Halves W) → Words fits h → Words fits (rounds N ks h)
   unfolding rounds
-  rounds-fits [] h p q = (p, q)
-  rounds-fits (k ∷ ks) h p q = rounds-fits ks (round N k h) q (laws .join-fits _ _ p (applied-fits (h .right) k))
+  rounds-fits [] h p = p
+  rounds-fits (k ∷ ks) h p = rounds-fits ks (round N k h) (p .1, laws .join-fits _ _ (p .0) (applied-fits (h .right) k))
 
   -- a run of words gives words
-  pub ran-fits : (h : Halves W) → fits (h .left) → fits (h .right) → fits (ran N h .left) × fits (ran N h .right)
-  ran-fits h p q = let both = rounds-fits (N .words) h p q in (both .1, both .0)
+  ran-fits : (h : Halves W) → Words fits h → Words fits (ran N h)
+  ran-fits h p = let both = rounds-fits (N .words) h p in (both .1, both .0)
 
 not-not : (b : Bool) → not (not b) ≡ b
 not-not true = refl
@@ -96,3 +87,16 @@ pub turned-turned : {W : Type 0} (N : Network W) → turned (turned N) ≡ N
 turned-turned N =
     ap₂ (λ b ws. record { joined = N .joined; inverted = N .inverted; function = N .function; inverting = b; words = ws })
     (not-not (N .inverting)) (reverse-reverse (N .words))
+
+-- a network and the turned one are inverses: what holds from one side holds from the other, since the second turn takes the first back
+module _ {W : Type 0} {fits : W → Type 0} {neutral : W} (N : Network W) (laws : Lawful fits neutral (N .joined) (N .inverted)) (values : (half : W) (word : ℕ) → fits (N .function half word)) where
+  pub back-and-forth : (h : Halves W) → Words fits h → ran N (ran (turned N) h) ≡ h
+  back-and-forth h p = sym (ap (λ M. ran M (ran (turned N) h)) (turned-turned N)) ∙ there-and-back (turned N) laws values h p
+
+  pub inverses : Inverses fits N (turned N)
+  inverses = record {
+    keeps = ran-fits N laws values;
+    keeps-back = ran-fits (turned N) laws values;
+    back = there-and-back N laws values;
+    forth = back-and-forth;
+  }

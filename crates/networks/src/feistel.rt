@@ -1,8 +1,11 @@
 // Feistel networks over any group and round function.
 ghost use mathlib.Core.Bool.{false};
+ghost use lib.ListN.{length};
+ghost use mathlib.Core.List.{[], _∷_, _++_};
 ghost use mathlib.Core.Path.{_≡_};
+ghost use Rattle.std.specs.Options.{Cases};
 ghost use Rattle.networks.specs.Networks.{network};
-ghost use Rattle.networks.specs.Rounds.{Network, applied, round, unround, ran, unran, turned};
+ghost use Rattle.networks.specs.Rounds.{applied, round, unround, ran, unran, turned, Words, Inverses};
 ghost use Rattle.networks.specs.Schedules.{roundWords};
 use crate::functions::RoundFunction;
 use crate::pairs::Halves;
@@ -63,7 +66,7 @@ impl<G: Group, F: RoundFunction<Half = G::Word>> Feistel<G, F> {
 
     // The rounds in order, and then the swap.
     pub fn run(&self, halves: Halves<G::Word>) -> Halves<G::Word>
-        ensures value { λ r. ⌜ r ≡ ran (network G·Group F·RoundFunction (now (self .entry))) halves ⌝ }
+        ensures { λ r. ⌜ r ≡ ran (network G·Group F·RoundFunction (now (self .entry))) halves ⌝ }
     {
         let mut state = halves;
         for word in self.schedule.round_words() {
@@ -73,21 +76,62 @@ impl<G: Group, F: RoundFunction<Half = G::Word>> Feistel<G, F> {
     }
 
     // The swap taken back, and then the rounds, the last one first.
-    pub fn undo(&self, halves: Halves<G::Word>) -> Halves<G::Word>
-        ensures value { λ r. ⌜ r ≡ unran (network G·Group F·RoundFunction (now (self .entry))) halves ⌝ }
+    fn undone(&self, halves: Halves<G::Word>) -> Halves<G::Word>
+        ensures { λ r. ⌜ r ≡ unran (network G·Group F·RoundFunction (now (self .entry))) halves ⌝ }
     {
         let mut state = halves.swap();
-        for word in self.schedule.round_words().iter().rev() {
-            state = self.unround(*word, state);
+        let mut words = self.schedule.round_words();
+        while let Some((last, earlier)) = last_round(words) {
+            state = self.unround(*last, state);
+            words = earlier;
         }
         state
     }
 
-    // Becomes the inverse network, in place.
-    pub fn turn(&mut self)
+    // The way back that undoes the rounds. It makes of any halves what the turned network makes of them.
+    pub fn undo(&self, halves: Halves<G::Word>) -> Halves<G::Word>
+        ensures value { λ r. ⌜ r ≡ unran (network G·Group F·RoundFunction (now (self .entry))) halves ⌝ }
+        ensures turned { λ r. ⌜ r ≡ ran (turned (network G·Group F·RoundFunction (now (self .entry)))) halves ⌝ }
+        ensures back { λ r. ⌜ (Words (Word·Word .fits) halves → ran (network G·Group F·RoundFunction (now (self .entry))) r ≡ halves) ⌝ }
+    {
+        self.undone(halves)
+    }
+
+    // The round words reversed, and the function's values inverted, or no longer inverted.
+    fn reverse(&mut self)
         ensures { λ _. ⌜ network G·Group F·RoundFunction (now (self .exit)) ≡ turned (network G·Group F·RoundFunction (now (self .entry))) ⌝ }
     {
         self.schedule.reverse();
         self.inverted = !self.inverted;
     }
+
+    // Becomes the inverse network, in place.
+    pub fn turn(&mut self)
+        ensures network { λ _. ⌜ network G·Group F·RoundFunction (now (self .exit)) ≡ turned (network G·Group F·RoundFunction (now (self .entry))) ⌝ }
+        ensures inverse { λ _. ⌜ Inverses (Word·Word .fits) (network G·Group F·RoundFunction (now (self .entry))) (network G·Group F·RoundFunction (now (self .exit))) ⌝ }
+    {
+        self.reverse();
+    }
+
+    // Both ways back of any halves, the rounds undone and the turned network run: they agree.
+    // The network is as it was afterwards.
+    pub fn ways_back(&mut self, halves: Halves<G::Word>) -> (Halves<G::Word>, Halves<G::Word>)
+        ensures undone { λ r. ⌜ r .0 ≡ unran (network G·Group F·RoundFunction (now (self .entry))) halves ⌝ }
+        ensures turned { λ r. ⌜ r .1 ≡ ran (turned (network G·Group F·RoundFunction (now (self .entry)))) halves ⌝ }
+        ensures agree { λ r. ⌜ r .0 ≡ r .1 ⌝ }
+        ensures same { λ _. ⌜ network G·Group F·RoundFunction (now (self .exit)) ≡ network G·Group F·RoundFunction (now (self .entry)) ⌝ }
+    {
+        let undone = self.undo(halves);
+        self.turn();
+        let opened = self.run(halves);
+        self.turn();
+        (undone, opened)
+    }
+}
+
+// The last of the round words, which is taken back first, and those before it.
+fn last_round(words: &[u64]) -> Option<(&u64, &[u64])>
+    ensures { λ r. ⌜ Cases r (length (now (words .entry)) ≡ 0) (λ p. now (words .entry) ≡ now (p .1) ++ now (p .0) ∷ []) ⌝ }
+{
+    words.split_last()
 }

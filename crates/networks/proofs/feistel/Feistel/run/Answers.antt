@@ -18,6 +18,4 @@ returns g c =
     let N = network (g .G·Group) (g .F·RoundFunction) (c .args .self .now) in
     let words = c .round-words-word-items .result .now in
     let done = rounds-all N words (c .loop-word .word-index) (c .loop-word .state) _ (c .loop-word-test .left) (c .loop-word .inv) in
-    record {
-      value = c .swap .ensures ∙ ap swapped (done ∙ ap (λ l. rounds N l (c .args .halves)) (c .round-words-word-items .ensures));
-    }
+    c .swap .ensures ∙ ap swapped (done ∙ ap (λ l. rounds N l (c .args .halves)) (c .round-words-word-items .ensures))

@@ -1,0 +1,15 @@
+use mathlib.Core.Path.{_≡_, sym, subst}
+use Rattle.networks.specs.Networks.{network}
+use Rattle.networks.specs.Rounds.{Inverses}
+use Rattle.networks.proofs.WaysBack.{inverses}
+use Rattle.networks.proofs.feistel.Feistel.turn.Needs as need
+
+pub returns : need.returns
+returns g c =
+    let N = network (g .G·Group) (g .F·RoundFunction) (c .args .self .now) in
+    let laws = g .G·Group·met .lawful in
+    let values = g .F·RoundFunction·met .within (c .args .self .now .function) in
+    record {
+      network = c .reverse .ensures;
+      inverse = subst (Inverses (g .Word·Word .fits) N) (sym (c .reverse .ensures)) (inverses N laws values);
+    }
