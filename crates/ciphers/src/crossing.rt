@@ -5,6 +5,7 @@ use crate::splits::join;
 use crate::splits::split;
 use crate::undoing::Undo;
 
+#[derive(Drop)]
 pub struct SwapHalves;
 
 pub impl Cipher for SwapHalves as SwapHalvesCipher {

@@ -9,7 +9,10 @@ use groups::Group;
 use networks::Feistel;
 use networks::RoundFunction;
 
-pub impl<G: Group<Word = u32>, F: RoundFunction<Half = u32>> Cipher for Feistel<G, F> as FeistelCipher {
+pub impl<G: Group<Word = u32>, F: RoundFunction<Half = u32>> Cipher for Feistel<
+    G,
+    F,
+> as FeistelCipher {
     ghost map = { λ n. feistel (network G·Group F·RoundFunction n) };
 
     fn seal(&self, block: u64) -> u64 {

@@ -6,6 +6,7 @@ use crate::interface::Cipher;
 use crate::undoing::Undo;
 
 // The first cipher and then the second, or the other way round once the pair is turned.
+#[derive(Drop)]
 pub struct Pair<A, B> {
     first: A,
     second: B,

@@ -4,6 +4,7 @@ ghost use Rattle.groups.specs.Sums.{sum, negative};
 use crate::lawful::Group;
 use crate::words::U16Word;
 
+#[derive(Clone, Copy)]
 pub struct Sum16;
 
 pub impl Group for Sum16 as Sum16Group {

@@ -4,6 +4,7 @@ ghost use Rattle.groups.specs.Sums.{sum, negative};
 use crate::lawful::Group;
 use crate::words::U32Word;
 
+#[derive(Clone, Copy)]
 pub struct Sum32;
 
 pub impl Group for Sum32 as Sum32Group {

@@ -3,6 +3,7 @@ ghost use lib.Bits.{bitXor};
 use crate::lawful::Group;
 use crate::words::U32Word;
 
+#[derive(Clone, Copy)]
 pub struct Xor32;
 
 pub impl Group for Xor32 as Xor32Group {

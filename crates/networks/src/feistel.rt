@@ -13,6 +13,7 @@ use crate::schedules::Schedule;
 use groups::Group;
 use std::marker::PhantomData;
 
+#[derive(Drop)]
 pub struct Feistel<G: Group, F: RoundFunction<Half = G::Word>> {
     function: F,
     schedule: Schedule,
