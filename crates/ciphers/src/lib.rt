@@ -16,3 +16,5 @@ pub use sequence::Pair;
 pub use sequence::PairCipher;
 pub use sequence::PairUndo;
 pub use undoing::Undo;
+pub use undoing::WaysBack;
+pub use undoing::ways_back;

@@ -5,7 +5,7 @@ ghost use mathlib.Core.List.{[], _∷_, _++_};
 ghost use mathlib.Core.Path.{_≡_};
 ghost use Rattle.std.specs.Options.{Cases};
 ghost use Rattle.networks.specs.Networks.{network};
-ghost use Rattle.networks.specs.Rounds.{applied, round, unround, ran, unran, turned, Words, Inverses};
+ghost use Rattle.networks.specs.Rounds.{applied, round, rounds, unround, unrounds, ran, unran, turned, Words, Inverses};
 ghost use Rattle.networks.specs.Schedules.{roundWords};
 use crate::functions::RoundFunction;
 use crate::pairs::Halves;
@@ -65,28 +65,42 @@ impl<G: Group, F: RoundFunction<Half = G::Word>> Feistel<G, F> {
         }
     }
 
-    // The rounds in order, and then the swap.
-    pub fn run(&self, halves: Halves<G::Word>) -> Halves<G::Word>
-        ensures { λ r. ⌜ r ≡ ran (network G·Group F·RoundFunction (now (self .entry))) halves ⌝ }
+    // The rounds in order.
+    fn rounds(&self, halves: Halves<G::Word>) -> Halves<G::Word>
+        ensures { λ r. ⌜ r ≡ rounds (network G·Group F·RoundFunction (now (self .entry))) (roundWords (now (self .entry) .schedule)) halves ⌝ }
     {
         let mut state = halves;
         for word in self.schedule.round_words() {
             state = self.round(*word, state);
         }
-        state.swap()
+        state
     }
 
-    // The swap taken back, and then the rounds, the last one first.
-    fn undone(&self, halves: Halves<G::Word>) -> Halves<G::Word>
-        ensures { λ r. ⌜ r ≡ unran (network G·Group F·RoundFunction (now (self .entry))) halves ⌝ }
+    // The rounds in order, and then the swap.
+    pub fn run(&self, halves: Halves<G::Word>) -> Halves<G::Word>
+        ensures { λ r. ⌜ r ≡ ran (network G·Group F·RoundFunction (now (self .entry))) halves ⌝ }
     {
-        let mut state = halves.swap();
+        self.rounds(halves).swap()
+    }
+
+    // The rounds taken back, the last one first.
+    fn unrounds(&self, halves: Halves<G::Word>) -> Halves<G::Word>
+        ensures { λ r. ⌜ r ≡ unrounds (network G·Group F·RoundFunction (now (self .entry))) (roundWords (now (self .entry) .schedule)) halves ⌝ }
+    {
+        let mut state = halves;
         let mut words = self.schedule.round_words();
         while let Some((last, earlier)) = last_round(words) {
             state = self.unround(*last, state);
             words = earlier;
         }
         state
+    }
+
+    // The swap taken back, and then the rounds.
+    fn undone(&self, halves: Halves<G::Word>) -> Halves<G::Word>
+        ensures { λ r. ⌜ r ≡ unran (network G·Group F·RoundFunction (now (self .entry))) halves ⌝ }
+    {
+        self.unrounds(halves.swap())
     }
 
     // The way back that undoes the rounds. It makes of any halves what the turned network makes of them.
@@ -109,6 +123,7 @@ impl<G: Group, F: RoundFunction<Half = G::Word>> Feistel<G, F> {
     // Becomes the inverse network, in place.
     pub fn turn(&mut self)
         ensures network { λ _. ⌜ network G·Group F·RoundFunction (now (self .exit)) ≡ turned (network G·Group F·RoundFunction (now (self .entry))) ⌝ }
+        ensures again { λ _. ⌜ turned (network G·Group F·RoundFunction (now (self .exit))) ≡ network G·Group F·RoundFunction (now (self .entry)) ⌝ }
         ensures inverse { λ _. ⌜ Inverses (Word·Word .fits) (network G·Group F·RoundFunction (now (self .entry))) (network G·Group F·RoundFunction (now (self .exit))) ⌝ }
     {
         self.reverse();

@@ -22,6 +22,13 @@ impl Cycles {
         Some(Cycles { count })
     }
 
+    // The fewest.
+    pub fn one() -> Cycles
+        ensures { λ r. ⌜ r .count ≡ 1 ⌝ }
+    {
+        Cycles { count: 1 }
+    }
+
     // The usual 32.
     pub fn full() -> Cycles
         ensures { λ r. ⌜ r .count ≡ 32 ⌝ }

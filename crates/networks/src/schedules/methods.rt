@@ -28,7 +28,12 @@ impl Schedule {
     pub fn reverse(&mut self)
         ensures { λ _. ⌜ roundWords (now (self .exit)) ≡ reverse (roundWords (now (self .entry))) ⌝ }
     {
-        let words = &mut self.words[0..self.count];
-        words.reverse();
+        last_first(&mut self.words[0..self.count]);
     }
+}
+
+fn last_first(words: &mut [u64])
+    ensures { λ _. ⌜ now (words .exit) ≡ reverse (now (words .entry)) ⌝ }
+{
+    words.reverse();
 }

@@ -1,7 +1,7 @@
-use mathlib.Core.Path.{_≡_, sym, subst}
+use mathlib.Core.Path.{sym, ap, subst, _∙_}
 use Rattle.networks.specs.Networks.{network}
-use Rattle.networks.specs.Rounds.{Inverses}
-use Rattle.networks.proofs.WaysBack.{inverses}
+use Rattle.networks.specs.Rounds.{turned, Inverses}
+use Rattle.networks.proofs.WaysBack.{inverses, turned-turned}
 use Rattle.networks.proofs.feistel.Feistel.turn.Needs as need
 
 pub returns : need.returns
@@ -11,5 +11,6 @@ returns g c =
     let values = g .F·RoundFunction·met .within (c .args .self .now .function) in
     record {
       network = c .reverse .ensures;
+      again = ap turned (c .reverse .ensures) ∙ turned-turned N;
       inverse = subst (Inverses (g .Word·Word .fits) N) (sym (c .reverse .ensures)) (inverses N laws values);
     }

@@ -2,9 +2,9 @@ use mathlib.Core.Path.{_≡_}
 use lib.ListN.{length}
 use Rattle.networks.specs.Networks.{network}
 use Rattle.networks.specs.Rounds.{unrounds}
-use Rattle.networks.proofs.feistel.Feistel.undone.Given as given
+use Rattle.networks.proofs.feistel.Feistel.unrounds.Given as given
 
--- the words that are left undo the state to what all of them undo the swapped halves to
+-- the words that are left undo the state to what all of them undo the halves to
 abbrev pub Inv-loop-last : given.InvT-loop-last
 Inv-loop-last g l =
     let N = network (g .G·Group) (g .F·RoundFunction) (l .self) in

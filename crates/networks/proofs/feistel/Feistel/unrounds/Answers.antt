@@ -1,4 +1,4 @@
-use mathlib.Core.Path.{_≡_, refl, ap, ap₂, _∙_}
+use mathlib.Core.Path.{ap, _∙_}
 use Prim.Native.Nat.{_+_, _<_}
 use native.Mathlib.Omega.{arith}
 use lib.ListN.{length}
@@ -6,7 +6,7 @@ use Rattle.std.proofs.shelf.Lists.{length-push}
 use Rattle.networks.specs.Networks.{network}
 use Rattle.networks.specs.Rounds.{unrounds}
 use Rattle.networks.proofs.Steps.{unrounds-more, unrounds-all}
-use Rattle.networks.proofs.feistel.Feistel.undone.Needs as need
+use Rattle.networks.proofs.feistel.Feistel.unrounds.Needs as need
 
 pub loop-last-less : need.loop-last-less
 loop-last-less g c = omega (arith, ap length (c .in-Some .ensures tt) ∙ length-push _ _)
@@ -20,4 +20,4 @@ pub returns : need.returns
 returns g c =
     let N = network (g .G·Group) (g .F·RoundFunction) (c .args .self .now) in
     unrounds-all N _ _ _ (c .in-rest .ensures tt) (c .loop-last .inv)
-    ∙ ap₂ (unrounds N) (c .round-words-words .ensures) (c .swap-state .ensures)
+    ∙ ap (λ l. unrounds N l (c .args .halves)) (c .round-words-words .ensures)

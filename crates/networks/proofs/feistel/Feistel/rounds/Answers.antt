@@ -1,8 +1,8 @@
 use mathlib.Core.Path.{refl, ap, _∙_}
 use Rattle.networks.specs.Networks.{network}
-use Rattle.networks.specs.Rounds.{rounds, swapped}
+use Rattle.networks.specs.Rounds.{rounds}
 use Rattle.networks.proofs.Steps.{rounds-more, rounds-all}
-use Rattle.networks.proofs.feistel.Feistel.run.Needs as need
+use Rattle.networks.proofs.feistel.Feistel.rounds.Needs as need
 
 pub loop-word-holds : need.loop-word-holds
 loop-word-holds g c = refl
@@ -16,6 +16,5 @@ loop-word-again g c =
 pub returns : need.returns
 returns g c =
     let N = network (g .G·Group) (g .F·RoundFunction) (c .args .self .now) in
-    let words = c .round-words-word-items .result .now in
-    let done = rounds-all N words (c .loop-word .word-index) (c .loop-word .state) _ (c .loop-word-test .left) (c .loop-word .inv) in
-    c .swap .ensures ∙ ap swapped (done ∙ ap (λ l. rounds N l (c .args .halves)) (c .round-words-word-items .ensures))
+    rounds-all N (c .round-words-word-items .result .now) (c .loop-word .word-index) (c .loop-word .state) _ (c .loop-word-test .left) (c .loop-word .inv)
+    ∙ ap (λ l. rounds N l (c .args .halves)) (c .round-words-word-items .ensures)

@@ -3,7 +3,7 @@ use Prim.Native.Nat.{_≤_}
 use lib.ListN.{drop, length}
 use Rattle.networks.specs.Networks.{network}
 use Rattle.networks.specs.Rounds.{rounds}
-use Rattle.networks.proofs.feistel.Feistel.run.Given as given
+use Rattle.networks.proofs.feistel.Feistel.rounds.Given as given
 
 -- the words that are left make of the state what all of them make of the halves
 abbrev pub Inv-loop-word : given.InvT-loop-word
