@@ -1,0 +1,57 @@
+// Hexadecimal: digits of either case, the most significant first.
+ghost use mathlib.Core.Path.{_≡_};
+ghost use Prim.Native.Nat.{_<_};
+ghost use Rattle.std.specs.Of.Vec.{vec-items};
+ghost use Rattle.std.specs.Options.{Cases};
+ghost use Rattle.known_answers.specs.Hex.{digitOf, byteOf, blockOf, bytesOf};
+ghost use Rattle.known_answers.specs.Answers.{Answers};
+use crate::unread::Unread;
+use crate::unread::UnreadFromRefused;
+use std::alloc::Global;
+
+// What a digit is worth.
+pub fn digit(c: char) -> Option<u8>
+    ensures value { λ r. ⌜ r ≡ digitOf c ⌝ }
+    ensures within { λ r. ⌜ Cases r (Unit {0}) (λ d. d < 16) ⌝ }
+{
+    match c {
+        '0'..='9' => Some(c as u8 - b'0'),
+        'a'..='f' => Some(c as u8 - b'a' + 10),
+        'A'..='F' => Some(c as u8 - b'A' + 10),
+        _ => None,
+    }
+}
+
+// The byte that two digits write.
+pub fn byte(high: u8, low: u8) -> Option<u8>
+    ensures { λ r. ⌜ r ≡ byteOf high low ⌝ }
+{
+    Some(digit(char::from(high))? * 16 + digit(char::from(low))?)
+}
+
+// The block that exactly sixteen digits write.
+pub fn block(digits: &[u8]) -> Option<u64>
+    ensures { λ r. ⌜ r ≡ blockOf (now (digits .entry)) ⌝ }
+{
+    if digits.len() != 16 {
+        return None;
+    }
+    let mut value: u64 = 0;
+    for c in digits {
+        value = value * 16 + u64::from(digit(char::from(*c))?);
+    }
+    Some(value)
+}
+
+// The bytes that the digits write, two to a byte.
+pub fn bytes(heap: Global, digits: &[u8]) -> Result<Vec<u8>, Unread>
+    ensures { λ r. ⌜ Answers vec-items r (bytesOf (now (digits .entry))) ⌝ }
+{
+    let mut out = Vec::new(heap);
+    let mut rest = digits;
+    while let [high, low, after @ ..] = rest {
+        out.push(byte(*high, *low).ok_or(Unread::Malformed)?)?;
+        rest = after;
+    }
+    if rest.is_empty() { Ok(out) } else { Err(Unread::Malformed) }
+}

@@ -1,0 +1,1 @@
+// An input cut into lines.
