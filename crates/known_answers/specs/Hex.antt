@@ -25,7 +25,7 @@ front (Some x) (Some xs) = Some (x ∷ xs)
 front (Some x) None = None
 front None o = None
 
--- a high and a low digit, where both are there
+-- a number and one digit more below it, where both are there
 abbrev pub paired : Option ℕ → Option ℕ → Option ℕ
 paired (Some high) (Some low) = Some (high * 16 + low)
 paired (Some high) None = None
@@ -39,9 +39,13 @@ abbrev pub valuesOf : List ℕ → Option (List ℕ)
 valuesOf [] = Some []
 valuesOf (c ∷ cs) = front (digitOf c) (valuesOf cs)
 
--- the number that sixteen digits write
+-- the number that digits write
+abbrev pub numberOf : List ℕ → Option ℕ
+numberOf cs = mapped (number 16) (valuesOf cs)
+
+-- the number that sixteen digits write, and no fewer or more
 abbrev pub blockOf : List ℕ → Option ℕ
-blockOf cs = cond (eqb (length cs) 16) (mapped (number 16) (valuesOf cs)) None
+blockOf cs = cond (eqb (length cs) 16) (numberOf cs) None
 
 -- the bytes that digits write, two to a byte
 abbrev pub bytesOf : List ℕ → Option (List ℕ)

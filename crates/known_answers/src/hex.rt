@@ -1,9 +1,11 @@
 // Hexadecimal: digits of either case, the most significant first.
 ghost use mathlib.Core.Path.{_≡_};
-ghost use Prim.Native.Nat.{_<_};
+ghost use Prim.Native.Nat.{_+_, _*_, _^_, _<_, _≤_};
+ghost use lib.ListN.{length};
 ghost use Rattle.std.specs.Of.Vec.{vec-items};
 ghost use Rattle.std.specs.Options.{Cases};
-ghost use Rattle.known_answers.specs.Hex.{digitOf, byteOf, blockOf, bytesOf};
+ghost use Rattle.std.specs.declared.option.Option.the-variants.{Some};
+ghost use Rattle.known_answers.specs.Hex.{digitOf, paired, byteOf, numberOf, blockOf, bytesOf};
 ghost use Rattle.known_answers.specs.Answers.{Answers};
 use crate::unread::Unread;
 use crate::unread::UnreadFromRefused;
@@ -29,18 +31,32 @@ pub fn byte(high: u8, low: u8) -> Option<u8>
     Some(digit(char::from(high))? * 16 + digit(char::from(low))?)
 }
 
+// One digit more below a number.
+fn grown(value: u64, c: u8) -> Option<u64>
+    requires { ⌜ value < 2 ^ 60 ⌝ }
+    ensures value { λ r. ⌜ r ≡ paired (Some value) (digitOf c) ⌝ }
+    ensures within { λ r. ⌜ Cases r (Unit {0}) (λ n. n < 16 * (value + 1)) ⌝ }
+{
+    Some(value * 16 + u64::from(digit(char::from(c))?))
+}
+
+// The number that at most sixteen digits write.
+fn number(digits: &[u8]) -> Option<u64>
+    requires { ⌜ length (now digits) ≤ 16 ⌝ }
+    ensures { λ r. ⌜ r ≡ numberOf (now (digits .entry)) ⌝ }
+{
+    let mut value = 0;
+    for c in digits {
+        value = grown(value, *c)?;
+    }
+    Some(value)
+}
+
 // The block that exactly sixteen digits write.
 pub fn block(digits: &[u8]) -> Option<u64>
     ensures { λ r. ⌜ r ≡ blockOf (now (digits .entry)) ⌝ }
 {
-    if digits.len() != 16 {
-        return None;
-    }
-    let mut value: u64 = 0;
-    for c in digits {
-        value = value * 16 + u64::from(digit(char::from(*c))?);
-    }
-    Some(value)
+    if digits.len() == 16 { number(digits) } else { None }
 }
 
 // The bytes that the digits write, two to a byte.
