@@ -56,7 +56,11 @@ fn number(digits: &[u8]) -> Option<u64>
 pub fn block(digits: &[u8]) -> Option<u64>
     ensures { λ r. ⌜ r ≡ blockOf (now (digits .entry)) ⌝ }
 {
-    if digits.len() == 16 { number(digits) } else { None }
+    if digits.len() == 16 {
+        number(digits)
+    } else {
+        None
+    }
 }
 
 // The bytes that the digits write, two to a byte.
@@ -69,5 +73,9 @@ pub fn bytes(heap: Global, digits: &[u8]) -> Result<Vec<u8>, Unread>
         out.push(byte(*high, *low).ok_or(Unread::Malformed)?)?;
         rest = after;
     }
-    if rest.is_empty() { Ok(out) } else { Err(Unread::Malformed) }
+    if rest.is_empty() {
+        Ok(out)
+    } else {
+        Err(Unread::Malformed)
+    }
 }

@@ -1,1 +1,44 @@
 // An input cut into lines.
+ghost use mathlib.Core.Path.{_≡_};
+ghost use mathlib.Core.List.{[], _∷_};
+ghost use Prim.Native.Nat.{_<_};
+ghost use lib.ListN.{length};
+ghost use Rattle.std.specs.Options.{mapped, Cases};
+ghost use Rattle.known_answers.specs.Cut.{linesOf, Next};
+use crate::cut::split;
+
+// The lines of an input that are still to come.
+#[derive(Clone, Copy, Debug)]
+pub struct Lines<'a> {
+    rest: &'a [u8],
+}
+
+// The first line of a text, and what follows its line feed.
+fn first_line(text: &[u8]) -> Option<(&[u8], &[u8])>
+    ensures value { λ r. ⌜ Cases r (linesOf (now (text .entry)) ≡ []) (λ p. linesOf (now (text .entry)) ≡ p .0 .now ∷ linesOf (p .1 .now)) ⌝ }
+    ensures shorter { λ r. ⌜ Cases r (Unit {0}) (λ p. length (p .1 .now) < length (now (text .entry))) ⌝ }
+{
+    match split(text, b'\n') {
+        Some(parts) => Some(parts),
+        None if text.is_empty() => None,
+        None => Some((text, &[])),
+    }
+}
+
+impl<'a> Lines<'a> {
+    pub fn new(input: &'a [u8]) -> Lines<'a>
+        ensures { λ r. ⌜ now (r .rest) ≡ now (input .entry) ⌝ }
+    {
+        Lines { rest: input }
+    }
+
+    // The next line, without its line feed.
+    pub fn next_line(&mut self) -> Option<&'a [u8]>
+        ensures value { λ r. ⌜ Next (linesOf (now (self .entry) .rest .now)) (mapped now r) (linesOf (now (self .exit) .rest .now)) ⌝ }
+        ensures shorter { λ r. ⌜ Cases r (Unit {0}) (λ _. length (now (self .exit) .rest .now) < length (now (self .entry) .rest .now)) ⌝ }
+    {
+        let (line, rest) = first_line(self.rest)?;
+        self.rest = rest;
+        Some(line)
+    }
+}

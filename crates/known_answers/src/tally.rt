@@ -23,7 +23,11 @@ impl Tally {
     pub fn new() -> Tally
         ensures { λ r. ⌜ r ≡ none ⌝ }
     {
-        Tally { ok: 0, differs: 0, unreadable: 0 }
+        Tally {
+            ok: 0,
+            differs: 0,
+            unreadable: 0,
+        }
     }
 
     pub fn count(&mut self, verdict: &Verdict)

@@ -15,11 +15,10 @@ returns-in-Break-value c =
 
 pub loop-c-again : need.loop-c-again
 loop-c-again c =
-    let told = c .in-Continue-value .ensures tt in
-    (
+    let told = c .in-Continue-value .ensures tt in (
       room-more (c .loop-c .value) (c .in-Continue-value .value) (c .loop-c .c-index) (c .loop-c .inv .0) (told .within),
       sym (after-more (c .args .digits .now) (c .loop-c .c-index) (c .loop-c .value) (c .in-Continue-value .value) (omega arith) (told .value))
-      ∙ c .loop-c .inv .1,
+          ∙ c .loop-c .inv .1,
     )
 
 pub returns : need.returns
