@@ -104,7 +104,7 @@ five a b c d [] l = absurd (omega arith)
 five a b c d (f ∷ fs) l = refl
 
 -- a line in which four fields end at a semicolon has no four fields
-pub not-four : {line a after-a b after-b c after-c d after-d : List ℕ} → fieldsOf line ≡ a ∷ fieldsOf after-a → fieldsOf after-a ≡ b ∷ fieldsOf after-b → fieldsOf after-b ≡ c ∷ fieldsOf after-c → fieldsOf after-c ≡ d ∷ fieldsOf after-d → None ≡ fourOf (fieldsOf line)
-not-four {a = a} {b = b} {c = c} {d = d} {after-d = after-d} first second third fourth =
+pub not-four : (line after-a after-b after-c after-d : List ℕ) {a b c d : List ℕ} → fieldsOf line ≡ a ∷ fieldsOf after-a → fieldsOf after-a ≡ b ∷ fieldsOf after-b → fieldsOf after-b ≡ c ∷ fieldsOf after-c → fieldsOf after-c ≡ d ∷ fieldsOf after-d → None ≡ fourOf (fieldsOf line)
+not-four line after-a after-b after-c after-d {a} {b} {c} {d} first second third fourth =
     five a b c d (fieldsOf after-d) (some-field after-d)
     ∙ sym (ap fourOf (first ∙ ap (λ fs. a ∷ fs) (second ∙ ap (λ fs. b ∷ fs) (third ∙ ap (λ fs. c ∷ fs) fourth))))

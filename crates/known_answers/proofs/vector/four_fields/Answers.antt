@@ -3,12 +3,7 @@ use Rattle.known_answers.proofs.vector.four_fields.Needs as need
 
 pub returns-in-Some : need.returns-in-Some
 returns-in-Some c =
-    not-four
-    {line = c .args .line .now}
-    {after-a = c .in-Continue-description .rest .now}
-    {after-b = c .in-Continue-key .rest .now}
-    {after-c = c .in-Continue-text .sealed .now}
-    {after-d = c .in-Some .field-0 .1 .now}
+    not-four (c .args .line .now) (c .in-Continue-description .rest .now) (c .in-Continue-key .rest .now) (c .in-Continue-text .sealed .now) (c .in-Some .field-0 .1 .now)
     (c .in-Continue-description .ensures tt)
     (c .in-Continue-key .ensures tt)
     (c .in-Continue-text .ensures tt)
