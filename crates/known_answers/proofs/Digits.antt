@@ -1,5 +1,6 @@
 -- One turn of the loops over digits. Assumes nothing.
 use mathlib.Core.Path.{_≡_, refl, sym, ap, _∙_}
+use mathlib.Core.Bool.{true}
 use mathlib.Core.List.{List, [], _∷_, _++_}
 use Prim.Native.Nat.{ℕ, _+_, _-_, _*_, _^_, _<_, _≤_}
 use native.Mathlib.Nat.{pow-le-pow-right}
@@ -7,7 +8,7 @@ use native.Mathlib.Omega.{arith}
 use lib.ListN.{length, getD, take, drop}
 use lib.Pow.{pow-add}
 use Rattle.std.proofs.shelf.Lists.{drop-more, take-rest, append-assoc}
-use Rattle.std.specs.Options.{mapped}
+use Rattle.std.specs.Options.{isSome, mapped}
 use Rattle.std.specs.shelf.Digits.{numberAfter}
 use Rattle.std.specs.declared.option.Option.{Option}
 use Rattle.std.specs.declared.option.Option.the-variants.{Some, None}
@@ -55,3 +56,14 @@ onto-more out now (high ∷ low ∷ cs) b l e p =
     ∙ ap (λ bs. onto bs cs) p
     ∙ joins out b (bytesOf cs)
     ∙ ap (λ o. mapped (λ bs. out ++ bs) (front o (bytesOf cs))) (sym e)
+
+front-some : (b : Option ℕ) (o : Option (List ℕ)) → isSome b ≡ true → isSome o ≡ isSome (front b o)
+front-some None o e = cc
+front-some (Some b) None e = refl
+front-some (Some b) (Some bs) e = refl
+
+pub whole-more : (cs : List ℕ) → 2 ≤ length cs → isSome (byteOf (getD cs 0 0) (getD cs 1 0)) ≡ true → isSome (bytesOf (take (length cs - 2) (drop 2 cs))) ≡ isSome (bytesOf cs)
+whole-more [] l e = absurd (omega arith)
+whole-more (high ∷ []) l e = absurd (omega arith)
+whole-more (high ∷ low ∷ cs) l e =
+    ap (λ ds. isSome (bytesOf ds)) (take-rest (high ∷ low ∷ cs) 2) ∙ front-some (byteOf high low) (bytesOf cs) e

@@ -13,7 +13,7 @@ use Rattle.std.proofs.shelf.Tests.{cond-true, cond-false, cond-both, eq-eqb, ne
 use Rattle.std.specs.Options.{mapped}
 use Rattle.std.specs.declared.option.Option.{Option}
 use Rattle.std.specs.declared.option.Option.the-variants.{Some, None}
-use Rattle.known_answers.specs.Vector.{fourOf}
+use Rattle.known_answers.specs.Vector.{onlyOf}
 use Rattle.known_answers.specs.Cut.{splitAt, lengthened, linesOf, fieldsOf}
 
 -- a text's first byte in front of what stands before the mark
@@ -37,16 +37,6 @@ split-none mark [] below = refl
 split-none mark (b ∷ bs) below =
     cond-false (eqb b mark) _ _ (ne-eqb b mark (below 0 (omega arith)))
     ∙ ap (mapped (led b)) (split-none mark bs (λ k h. below (suc k) (omega arith)))
-
--- what follows the mark is shorter than the text
-pub split-shorter : (mark : ℕ) (t : List ℕ) (p : List ℕ × List ℕ) → Some p ≡ splitAt mark t → length (p .1) < length t
-split-shorter mark [] p e = let z : _≡_ {A = ℕ} 0 1 = cc in absurd (omega arith)
-split-shorter mark (b ∷ bs) p e = by-test (eqb b mark) (splitAt mark bs) (split-shorter mark bs) (sym e)
-  where
-    by-test : (s : Bool) (o : Option (List ℕ × List ℕ)) → ((q : List ℕ × List ℕ) → Some q ≡ o → length (q .1) < length bs) → cond s (Some ([], bs)) (mapped (led b) o) ≡ Some p → length (p .1) < suc (length bs)
-    by-test true o rest e = let q : bs ≡ p .1 = cc in omega (arith, ap length q)
-    by-test false None rest e = let z : _≡_ {A = ℕ} 0 1 = cc in absurd (omega arith)
-    by-test false (Some q) rest e = let r : q .1 ≡ p .1 = cc in omega (arith, rest q refl, ap length r)
 
 -- the pieces of a text by a mark, of which the last ends at the text's end
 module _ (mark : ℕ) (pieces : List ℕ → List (List ℕ))
@@ -98,13 +88,13 @@ some-field [] = omega arith
 some-field (b ∷ bs) =
     cond-both (eqb b 59) ([] ∷ fieldsOf bs) (lengthened b (fieldsOf bs)) (λ fs. 0 < length fs) (λ _. omega arith) (λ _. longer b (fieldsOf bs))
 
--- four fields and some more
-five : (a b c d : List ℕ) (fs : List (List ℕ)) → 0 < length fs → None ≡ fourOf (a ∷ b ∷ c ∷ d ∷ fs)
-five a b c d [] l = absurd (omega arith)
-five a b c d (f ∷ fs) l = refl
+not-only : (f : List ℕ) (fs : List (List ℕ)) → 0 < length fs → None ≡ onlyOf (f ∷ fs)
+not-only f [] l = absurd (omega arith)
+not-only f (g ∷ fs) l = refl
 
--- a line in which four fields end at a semicolon has no four fields
-pub not-four : (line after-a after-b after-c after-d : List ℕ) {a b c d : List ℕ} → fieldsOf line ≡ a ∷ fieldsOf after-a → fieldsOf after-a ≡ b ∷ fieldsOf after-b → fieldsOf after-b ≡ c ∷ fieldsOf after-c → fieldsOf after-c ≡ d ∷ fieldsOf after-d → None ≡ fourOf (fieldsOf line)
-not-four line after-a after-b after-c after-d {a} {b} {c} {d} first second third fourth =
-    five a b c d (fieldsOf after-d) (some-field after-d)
-    ∙ sym (ap fourOf (first ∙ ap (λ fs. a ∷ fs) (second ∙ ap (λ fs. b ∷ fs) (third ∙ ap (λ fs. c ∷ fs) fourth))))
+-- a semicolon ends a field that is not the last
+pub only-some : (t : List ℕ) (p : List ℕ × List ℕ) → Some p ≡ splitAt 59 t → None ≡ onlyOf (fieldsOf t)
+only-some t p e = not-only (p .0) (fieldsOf (p .1)) (some-field (p .1)) ∙ sym (ap onlyOf (fields-some t p e))
+
+pub only-none : (t : List ℕ) → None ≡ splitAt 59 t → Some t ≡ onlyOf (fieldsOf t)
+only-none t e = sym (ap onlyOf (fields-none t e))

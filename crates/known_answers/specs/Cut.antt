@@ -1,5 +1,4 @@
 -- A text cut at marks.
-use mathlib.Core.Path.{_≡_}
 use mathlib.Core.Bool.{cond}
 use mathlib.Core.List.{List, [], _∷_}
 use Prim.Native.Nat.{ℕ}
@@ -27,8 +26,3 @@ linesOf (b ∷ bs) = cond (eqb b 10) ([] ∷ linesOf bs) (lengthened b (linesOf 
 abbrev pub fieldsOf : List ℕ → List (List ℕ)
 fieldsOf [] = [] ∷ []
 fieldsOf (b ∷ bs) = cond (eqb b 59) ([] ∷ fieldsOf bs) (lengthened b (fieldsOf bs))
-
--- a call's answer: the first of the pieces that were left, where there is one, and the others are left then
-abbrev pub Next : List (List ℕ) → Option (List ℕ) → List (List ℕ) → Type 0
-Next left None after = (left ≡ []) × (after ≡ [])
-Next left (Some piece) after = left ≡ piece ∷ after

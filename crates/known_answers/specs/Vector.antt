@@ -1,10 +1,8 @@
 -- What a line with a known answer states.
-use mathlib.Core.Bool.{cond}
 use mathlib.Core.List.{List, [], _∷_}
 use Prim.Native.Nat.{ℕ}
-use lib.Dec.{eqb}
-use lib.ListN.{length}
 use Rattle.std.specs.Of.Vec.{vec-items}
+use Rattle.std.specs.Options.{mapped}
 use Rattle.std.specs.declared.option.Option.{Option}
 use Rattle.std.specs.declared.option.Option.the-variants.{Some, None}
 use Rattle.known_answers.specs.declared.vector.Fields.{Fields}
@@ -20,14 +18,18 @@ Written = List ℕ × List ℕ × List ℕ × List ℕ
 abbrev pub parts : Fields → Written
 parts f = (f .description .now, f .key .now, f .text .now, f .sealed .now)
 
+-- the only one of some fields
+abbrev pub onlyOf : List (List ℕ) → Option (List ℕ)
+onlyOf [] = None
+onlyOf (field ∷ []) = Some field
+onlyOf (field ∷ next ∷ others) = None
+
 -- exactly four fields
 abbrev pub fourOf : List (List ℕ) → Option Written
 fourOf [] = None
 fourOf (description ∷ []) = None
 fourOf (description ∷ key ∷ []) = None
-fourOf (description ∷ key ∷ text ∷ []) = None
-fourOf (description ∷ key ∷ text ∷ sealed ∷ []) = Some (description, key, text, sealed)
-fourOf (description ∷ key ∷ text ∷ sealed ∷ more ∷ others) = None
+fourOf (description ∷ key ∷ text ∷ others) = mapped (λ sealed. (description, key, text, sealed)) (onlyOf others)
 
 -- a description, a key, a text and what it is sealed to
 abbrev pub Reading : Type 0

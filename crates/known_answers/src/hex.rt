@@ -3,7 +3,7 @@ ghost use mathlib.Core.Path.{_≡_};
 ghost use Prim.Native.Nat.{_+_, _*_, _^_, _<_, _≤_};
 ghost use lib.ListN.{length};
 ghost use Rattle.std.specs.Of.Vec.{vec-items};
-ghost use Rattle.std.specs.Options.{Cases};
+ghost use Rattle.std.specs.Options.{Cases, isSome};
 ghost use Rattle.std.specs.declared.option.Option.the-variants.{Some};
 ghost use Rattle.known_answers.specs.Hex.{digitOf, paired, byteOf, numberOf, blockOf, bytesOf};
 ghost use Rattle.known_answers.specs.Answers.{Answers};
@@ -63,19 +63,32 @@ pub fn block(digits: &[u8]) -> Option<u64>
     }
 }
 
-// The bytes that the digits write, two to a byte.
+// Whether the digits write bytes: two to each, and none left over.
+fn whole(digits: &[u8]) -> bool
+    ensures { λ r. ⌜ r ≡ isSome (bytesOf (now (digits .entry))) ⌝ }
+{
+    let mut rest = digits;
+    while let [high, low, after @ ..] = rest {
+        if byte(*high, *low).is_none() {
+            return false;
+        }
+        rest = after;
+    }
+    rest.is_empty()
+}
+
+// The bytes that the digits write, two to a byte. Memory is asked for only once they are known to write some.
 pub fn bytes(heap: Global, digits: &[u8]) -> Result<Vec<u8>, Unread>
     ensures { λ r. ⌜ Answers vec-items r (bytesOf (now (digits .entry))) ⌝ }
 {
+    if !whole(digits) {
+        return Err(Unread::Malformed);
+    }
     let mut out = Vec::new(heap);
     let mut rest = digits;
     while let [high, low, after @ ..] = rest {
         out.push(byte(*high, *low).ok_or(Unread::Malformed)?)?;
         rest = after;
     }
-    if rest.is_empty() {
-        Ok(out)
-    } else {
-        Err(Unread::Malformed)
-    }
+    Ok(out)
 }

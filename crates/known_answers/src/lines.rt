@@ -4,7 +4,8 @@ ghost use mathlib.Core.List.{[], _∷_};
 ghost use Prim.Native.Nat.{_<_};
 ghost use lib.ListN.{length};
 ghost use Rattle.std.specs.Options.{mapped, Cases};
-ghost use Rattle.known_answers.specs.Cut.{linesOf, Next};
+ghost use Rattle.known_answers.specs.Cut.{linesOf};
+ghost use Rattle.known_answers.specs.Lines.{leftOf, Next};
 use crate::cut::split;
 
 // The lines of an input that are still to come.
@@ -15,8 +16,7 @@ pub struct Lines<'a> {
 
 // The first line of a text, and what follows its line feed.
 fn first_line(text: &[u8]) -> Option<(&[u8], &[u8])>
-    ensures value { λ r. ⌜ Cases r (linesOf (now (text .entry)) ≡ []) (λ p. linesOf (now (text .entry)) ≡ p .0 .now ∷ linesOf (p .1 .now)) ⌝ }
-    ensures shorter { λ r. ⌜ Cases r (Unit {0}) (λ p. length (p .1 .now) < length (now (text .entry))) ⌝ }
+    ensures { λ r. ⌜ Cases r (linesOf (now (text .entry)) ≡ []) (λ p. linesOf (now (text .entry)) ≡ p .0 .now ∷ linesOf (p .1 .now)) ⌝ }
 {
     match split(text, b'\n') {
         Some(parts) => Some(parts),
@@ -27,15 +27,15 @@ fn first_line(text: &[u8]) -> Option<(&[u8], &[u8])>
 
 impl<'a> Lines<'a> {
     pub fn new(input: &'a [u8]) -> Lines<'a>
-        ensures { λ r. ⌜ now (r .rest) ≡ now (input .entry) ⌝ }
+        ensures { λ r. ⌜ leftOf r ≡ linesOf (now (input .entry)) ⌝ }
     {
         Lines { rest: input }
     }
 
     // The next line, without its line feed.
     pub fn next_line(&mut self) -> Option<&'a [u8]>
-        ensures value { λ r. ⌜ Next (linesOf (now (self .entry) .rest .now)) (mapped now r) (linesOf (now (self .exit) .rest .now)) ⌝ }
-        ensures shorter { λ r. ⌜ Cases r (Unit {0}) (λ _. length (now (self .exit) .rest .now) < length (now (self .entry) .rest .now)) ⌝ }
+        ensures value { λ r. ⌜ Next (leftOf (now (self .entry))) (mapped now r) (leftOf (now (self .exit))) ⌝ }
+        ensures fewer { λ r. ⌜ Cases r (Unit {0}) (λ _. length (leftOf (now (self .exit))) < length (leftOf (now (self .entry)))) ⌝ }
     {
         let (line, rest) = first_line(self.rest)?;
         self.rest = rest;

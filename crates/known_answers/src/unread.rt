@@ -1,7 +1,6 @@
 // Why a line was not read.
 ghost use mathlib.Core.Path.{_≡_};
 ghost use Rattle.known_answers.specs.declared.unread.Unread.the-variants.{Memory};
-use std::alloc::AllocError;
 use std::alloc::Refused;
 
 #[derive(Clone, Copy, Debug, PartialEq, Eq)]
@@ -10,14 +9,6 @@ pub enum Unread {
     Malformed,
     // There was no memory for what it says.
     Memory,
-}
-
-pub impl From<AllocError> for Unread as UnreadFromAlloc {
-    ghost converts = { λ _ r. r ≡ Memory };
-
-    fn from(_e: AllocError) -> Unread {
-        Unread::Memory
-    }
 }
 
 pub impl<T: Drop> From<Refused<T>> for Unread as UnreadFromRefused {

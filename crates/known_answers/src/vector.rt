@@ -4,7 +4,7 @@ ghost use mathlib.Core.List.{[], _∷_};
 ghost use Rattle.std.specs.Options.{mapped, Cases};
 ghost use Rattle.known_answers.specs.Answers.{Answers};
 ghost use Rattle.known_answers.specs.Cut.{fieldsOf};
-ghost use Rattle.known_answers.specs.Vector.{parts, fourOf, contents, readingOf};
+ghost use Rattle.known_answers.specs.Vector.{parts, onlyOf, fourOf, contents, readingOf};
 use crate::cut::split;
 use crate::hex::block;
 use crate::hex::bytes;
@@ -36,22 +36,30 @@ fn first_field(line: &[u8]) -> Option<(&[u8], &[u8])>
     split(line, b';')
 }
 
+// The field that the text is, where it has no semicolon.
+fn last_field(text: &[u8]) -> Option<&[u8]>
+    ensures { λ r. ⌜ mapped now r ≡ onlyOf (fieldsOf (now (text .entry))) ⌝ }
+{
+    match split(text, b';') {
+        Some(_) => None,
+        None => Some(text),
+    }
+}
+
 // The fields of a line that has exactly four.
 pub fn four_fields(line: &[u8]) -> Option<Fields<'_>>
     ensures { λ r. ⌜ mapped parts r ≡ fourOf (fieldsOf (now (line .entry))) ⌝ }
 {
     let (description, rest) = first_field(line)?;
     let (key, rest) = first_field(rest)?;
-    let (text, sealed) = first_field(rest)?;
-    match first_field(sealed) {
-        Some(_) => None,
-        None => Some(Fields {
-            description,
-            key,
-            text,
-            sealed,
-        }),
-    }
+    let (text, rest) = first_field(rest)?;
+    let sealed = last_field(rest)?;
+    Some(Fields {
+        description,
+        key,
+        text,
+        sealed,
+    })
 }
 
 // The known answer that a line states.
