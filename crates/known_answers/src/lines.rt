@@ -9,7 +9,7 @@ ghost use Rattle.known_answers.specs.Lines.{leftOf, Next};
 use crate::cut::split;
 
 // The lines of an input that are still to come.
-#[derive(Clone, Copy, Debug)]
+#[derive(Drop)]
 pub struct Lines<'a> {
     rest: &'a [u8],
 }

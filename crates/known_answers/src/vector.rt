@@ -12,7 +12,7 @@ use crate::unread::Unread;
 use std::alloc::Global;
 
 // The four fields of a line, as they are written.
-#[derive(Clone, Copy, Debug)]
+#[derive(Clone, Copy)]
 pub struct Fields<'a> {
     pub description: &'a [u8],
     pub key: &'a [u8],
@@ -21,7 +21,7 @@ pub struct Fields<'a> {
 }
 
 // A known answer: under the key, the text's block is sealed to the other.
-#[derive(Debug, Drop)]
+#[derive(Drop)]
 pub struct Vector<'a> {
     pub description: &'a [u8],
     pub key: Vec<u8>,
