@@ -9,7 +9,7 @@ use Rattle.std.specs.declared.result.Result.the-variants.{Ok, Err}
 use Rattle.known_answers.specs.declared.unread.Unread.{Unread}
 use Rattle.known_answers.specs.declared.unread.Unread.the-variants.{Malformed, Memory}
 
--- an Ok holds the value, Malformed says that there is none, and memory is wanting only for one that there is
+-- an Ok holds the value, Malformed says that there is none, and Memory is answered only where there is one
 abbrev pub Answers : {X Y : Type 0} → (X → Y) → Result X Unread → Option Y → Type 0
 Answers f (Ok x) o = o ≡ Some (f x)
 Answers f (Err Malformed) o = o ≡ None

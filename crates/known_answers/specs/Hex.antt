@@ -31,6 +31,7 @@ paired (Some high) (Some low) = Some (high * 16 + low)
 paired (Some high) None = None
 paired None o = None
 
+-- the byte that two digits write
 abbrev pub byteOf : ℕ → ℕ → Option ℕ
 byteOf high low = paired (digitOf high) (digitOf low)
 
