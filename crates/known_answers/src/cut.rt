@@ -4,7 +4,7 @@ ghost use Rattle.std.specs.Options.{mapped};
 ghost use Rattle.known_answers.specs.Cut.{splitAt};
 
 // What stands before the first mark and what stands after it.
-pub fn split(text: &[u8], mark: u8) -> Option<(&[u8], &[u8])>
+pub(crate) fn split(text: &[u8], mark: u8) -> Option<(&[u8], &[u8])>
     ensures { λ r. ⌜ mapped (λ p. (p .0 .now, p .1 .now)) r ≡ splitAt mark (now (text .entry)) ⌝ }
 {
     for (i, b) in text.iter().enumerate() {

@@ -28,11 +28,11 @@ pub more : (input line : List ℕ) (vs ws : List Verdict) (v : Verdict) (t u : T
     → left ≡ line ∷ after → v ≡ verdictOf line → ws ≡ vs ++ v ∷ [] → u ≡ counted v t → Sofar input vs t left → Sofar input ws u after
 more input line vs ws v t u left after first judged pushed added before = record {
   each =
-    ap (λ l. l ++ map verdictOf after) pushed
-    ∙ append-assoc vs (v ∷ []) (map verdictOf after)
-    ∙ ap (λ x. vs ++ x ∷ map verdictOf after) judged
-    ∙ ap (λ l. vs ++ map verdictOf l) (sym first)
-    ∙ before .each;
+      ap (λ l. l ++ map verdictOf after) pushed
+      ∙ append-assoc vs (v ∷ []) (map verdictOf after)
+      ∙ ap (λ x. vs ++ x ∷ map verdictOf after) judged
+      ∙ ap (λ l. vs ++ map verdictOf l) (sym first)
+      ∙ before .each;
   totals = added ∙ ap (counted v) (before .totals) ∙ sym (tallied-push none vs v) ∙ ap (tallied none) (sym pushed);
 }
 

@@ -10,7 +10,9 @@ fn count(digits: &[u8]) -> Option<usize>
 {
     match digits {
         [ones @ b'1'..=b'9'] => Some(usize::from(*ones - b'0')),
-        [tens @ b'1'..=b'9', ones @ b'0'..=b'9'] => Some(usize::from(*tens - b'0') * 10 + usize::from(*ones - b'0')),
+        [tens @ b'1'..=b'9', ones @ b'0'..=b'9'] => Some(
+            usize::from(*tens - b'0') * 10 + usize::from(*ones - b'0'),
+        ),
         _ => None,
     }
 }

@@ -19,7 +19,11 @@ fn print_report(rt: &LibcRuntime, report: &Report) -> io::Result<()> {
     for (index, verdict) in report.verdicts.iter().enumerate() {
         print_verdict(rt, index.saturating_add(1), verdict)?;
     }
-    let Tally { ok, differs, unreadable } = report.tally;
+    let Tally {
+        ok,
+        differs,
+        unreadable,
+    } = report.tally;
     println!(rt, "ok {ok} differs {differs} unreadable {unreadable}")
 }
 
