@@ -15,5 +15,5 @@ abbrev pub feistel : Network ℕ → ℕ → ℕ
 feistel N b = blockOf (ran N (halvesOf b))
 
 -- the block with its halves exchanged
-abbrev pub crossed : ℕ → ℕ
-crossed b = blockOf (swapped (halvesOf b))
+abbrev pub halvesSwapped : ℕ → ℕ
+halvesSwapped b = blockOf (swapped (halvesOf b))

@@ -4,16 +4,16 @@
 // the new one undo each other, in either order, on every block. An implementation of `Undo` takes a sealing back without
 // turning, and `ways_back` shows that both ways agree. Every Feistel network over 32-bit words, the swap of halves and
 // every pair of ciphers are such ciphers; a pair is proved against the maps of its parts alone. No call refuses.
-mod crossing;
+mod swap;
 mod feistels;
 mod interface;
 mod sequence;
 mod splits;
 mod undoing;
 
-pub use crossing::SwapHalves;
-pub use crossing::SwapHalvesCipher;
-pub use crossing::SwapHalvesUndo;
+pub use swap::SwapHalves;
+pub use swap::SwapHalvesCipher;
+pub use swap::SwapHalvesUndo;
 pub use feistels::FeistelCipher;
 pub use feistels::FeistelUndo;
 pub use interface::Cipher;

@@ -1,9 +1,7 @@
 -- The definitions at a few texts: each is computed. Assumes nothing.
 use mathlib.Core.Path.{_≡_, refl}
-use mathlib.Core.List.{List, [], _∷_}
-use Prim.Native.Nat.{ℕ}
+use mathlib.Core.List.{[], _∷_}
 use lib.Chars.{codes}
-use Rattle.std.specs.declared.option.Option.{Option}
 use Rattle.std.specs.declared.option.Option.the-variants.{Some, None}
 use Rattle.known_answers.specs.Cut.{linesOf, fieldsOf}
 use Rattle.known_answers.specs.Hex.{blockOf, bytesOf}

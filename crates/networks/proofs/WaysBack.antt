@@ -1,7 +1,7 @@
 -- Both ways back of a Feistel network agree, and undo the run. Assumes nothing.
 use mathlib.Core.Path.{_≡_, refl, sym, ap, ap₂, _∙_}
 use mathlib.Core.Bool.{Bool, true, false, not, cond}
-use mathlib.Core.List.{List, [], _∷_, _++_, reverse, reverse-cons, reverse-reverse}
+use mathlib.Core.List.{List, [], _∷_, reverse, reverse-cons, reverse-reverse}
 use Prim.Native.Nat.{ℕ}
 use Rattle.groups.specs.Laws.{Lawful}
 use Rattle.networks.specs.declared.pairs.Halves.{Halves}

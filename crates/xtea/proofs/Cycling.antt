@@ -1,5 +1,5 @@
 -- Two rounds of the network are a cycle, and the swaps behind the rounds take each other back. Assumes nothing.
-use mathlib.Core.Path.{_≡_, refl, sym, ap, ap₂, _∙_}
+use mathlib.Core.Path.{_≡_, sym, ap, ap₂, _∙_}
 use mathlib.Core.Bool.{Bool, false}
 use mathlib.Core.List.{List, [], _∷_, _++_, append-assoc}
 use Prim.Native.Nat.{ℕ, zero, suc, _+_, _*_, _/_, _%_, _^_, _<_}
@@ -8,7 +8,7 @@ use Rattle.groups.specs.Sums.{sum, negative}
 use Rattle.networks.specs.declared.pairs.Halves.{Halves}
 use Rattle.networks.specs.Rounds.{Network, Words, swapped, round, rounds}
 use Rattle.networks.proofs.Steps.{rounds-none, rounds-push}
-use Rattle.ciphers.specs.Blocks.{halvesOf, blockOf, feistel, crossed}
+use Rattle.ciphers.specs.Blocks.{halvesOf, blockOf, feistel, halvesSwapped}
 use Rattle.ciphers.specs.Maps.{composed}
 use Rattle.xtea.specs.Xtea.{mixed, firstWord, secondWord, cycle, cycled, wordsOf, xtea}
 
@@ -37,22 +37,22 @@ halves-block h p =
     let right : (h .left * 2 ^ 32 + h .right) % 2 ^ 32 ≡ h .right = omega arith in
     ap₂ (λ l r. record { left = l; right = r }) left right
 
-crossed-back : (h : Halves ℕ) → Words (λ x. x < 2 ^ 32) h → crossed (blockOf (swapped h)) ≡ blockOf h
-crossed-back h p = ap (λ g. blockOf (swapped g)) (halves-block (swapped h) (p .1, p .0))
+swapped-back : (h : Halves ℕ) → Words (λ x. x < 2 ^ 32) h → halvesSwapped (blockOf (swapped h)) ≡ blockOf h
+swapped-back h p = ap (λ g. blockOf (swapped g)) (halves-block (swapped h) (p .1, p .0))
 
 cycled-words : (key : List ℕ) (c : ℕ) (h : Halves ℕ) → Words (λ x. x < 2 ^ 32) h → Words (λ x. x < 2 ^ 32) (cycled key c h)
 unfolding cycled
 cycled-words key zero h p = p
 cycled-words key (suc j) h p = (omega arith, omega arith)
 
-sealed : (key : List ℕ) (c b : ℕ) → b < 2 ^ 64 → crossed (feistel (plain (wordsOf key c)) b) ≡ xtea key c b
+sealed : (key : List ℕ) (c b : ℕ) → b < 2 ^ 64 → halvesSwapped (feistel (plain (wordsOf key c)) b) ≡ xtea key c b
 sealed key c b block =
     let h = halvesOf b in
     let words : Words (λ x. x < 2 ^ 32) h = (omega arith, omega arith) in
-    ap (λ g. crossed (blockOf (swapped g))) (rounds-cycled key (wordsOf key c) c h)
-    ∙ crossed-back (cycled key c h) (cycled-words key c h words)
+    ap (λ g. halvesSwapped (blockOf (swapped g))) (rounds-cycled key (wordsOf key c) c h)
+    ∙ swapped-back (cycled key c h) (cycled-words key c h words)
 
 -- a new cipher: neither its order nor its network is turned
 pub sealed-new : (reversed turned : Bool) (key ws : List ℕ) (c : ℕ) → reversed ≡ false → turned ≡ false → ws ≡ wordsOf key c
-    → (b : ℕ) → b < 2 ^ 64 → composed reversed (feistel (networkOf turned ws)) crossed b ≡ xtea key c b
-sealed-new reversed turned key ws c p q e b block = (λ i. composed (p i) (feistel (networkOf (q i) (e i))) crossed b) ∙ sealed key c b block
+    → (b : ℕ) → b < 2 ^ 64 → composed reversed (feistel (networkOf turned ws)) halvesSwapped b ≡ xtea key c b
+sealed-new reversed turned key ws c p q e b block = (λ i. composed (p i) (feistel (networkOf (q i) (e i))) halvesSwapped b) ∙ sealed key c b block

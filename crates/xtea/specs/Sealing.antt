@@ -3,7 +3,7 @@ use Prim.Native.Nat.{ℕ, _^_}
 use Rattle.groups.specs.Sums.{sum, negative}
 use Rattle.networks.specs.Rounds.{Network}
 use Rattle.networks.specs.Schedules.{roundWords}
-use Rattle.ciphers.specs.Blocks.{feistel, crossed}
+use Rattle.ciphers.specs.Blocks.{feistel, halvesSwapped}
 use Rattle.ciphers.specs.Maps.{composed}
 use Rattle.xtea.specs.declared.cipher.Xtea.{Xtea}
 use Rattle.xtea.specs.Xtea.{mixed}
@@ -20,4 +20,4 @@ rounding x = record {
 
 -- the network and then the swap of halves, or the other way round once it is turned
 abbrev pub sealing : Xtea → ℕ → ℕ
-sealing x = composed (x .layers .reversed) (feistel (rounding x)) crossed
+sealing x = composed (x .layers .reversed) (feistel (rounding x)) halvesSwapped

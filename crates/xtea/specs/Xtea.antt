@@ -1,5 +1,4 @@
 -- XTEA, as its authors' note of 1997 has it. Assumes nothing.
-use mathlib.Core.Bool.{false}
 use mathlib.Core.List.{List, [], _∷_, _++_}
 use Prim.Native.Nat.{ℕ, zero, suc, _+_, _*_, _/_, _%_, _^_}
 use lib.Bits.{bitXor}

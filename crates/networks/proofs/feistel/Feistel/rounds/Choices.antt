@@ -1,6 +1,5 @@
 use mathlib.Core.Path.{_≡_}
-use Prim.Native.Nat.{_≤_}
-use lib.ListN.{drop, length}
+use lib.ListN.{drop}
 use Rattle.networks.specs.Networks.{network}
 use Rattle.networks.specs.Rounds.{rounds}
 use Rattle.networks.proofs.feistel.Feistel.rounds.Given as given

@@ -1,5 +1,5 @@
 // The swap of a block's halves, which is its own inverse.
-ghost use Rattle.ciphers.specs.Blocks.{crossed};
+ghost use Rattle.ciphers.specs.Blocks.{halvesSwapped};
 use crate::interface::Cipher;
 use crate::splits::join;
 use crate::splits::split;
@@ -9,7 +9,7 @@ use crate::undoing::Undo;
 pub struct SwapHalves;
 
 pub impl Cipher for SwapHalves as SwapHalvesCipher {
-    ghost map = { λ _. crossed };
+    ghost map = { λ _. halvesSwapped };
 
     fn seal(&self, block: u64) -> u64 {
         join(split(block).swap())
@@ -20,6 +20,6 @@ pub impl Cipher for SwapHalves as SwapHalvesCipher {
 
 pub impl Undo for SwapHalves as SwapHalvesUndo {
     fn undo(&self, block: u64) -> u64 {
-        join(split(block).swap())
+        self.seal(block)
     }
 }
