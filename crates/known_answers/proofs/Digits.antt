@@ -1,14 +1,13 @@
 -- One turn of the loops over digits. Assumes nothing.
 use mathlib.Core.Path.{_≡_, refl, sym, ap, _∙_}
-use mathlib.Core.Bool.{true}
 use mathlib.Core.List.{List, [], _∷_, _++_}
 use Prim.Native.Nat.{ℕ, _+_, _-_, _*_, _^_, _<_, _≤_}
 use native.Mathlib.Nat.{pow-le-pow-right}
 use native.Mathlib.Omega.{arith}
 use lib.ListN.{length, getD, take, drop}
 use lib.Pow.{pow-add}
-use Rattle.std.proofs.shelf.Lists.{drop-more, take-rest, append-assoc}
-use Rattle.std.specs.Options.{isSome, mapped}
+use Rattle.std.proofs.shelf.Lists.{drop-more, take-rest, append-assoc, append-nil}
+use Rattle.std.specs.Options.{mapped}
 use Rattle.std.specs.shelf.Digits.{numberAfter}
 use Rattle.std.specs.declared.option.Option.{Option}
 use Rattle.std.specs.declared.option.Option.the-variants.{Some, None}
@@ -44,6 +43,14 @@ after-none cs i v l e = ap (after v) (drop-more cs i 0 l) ∙ first-none v (digi
 abbrev pub onto : List ℕ → List ℕ → Option (List ℕ)
 onto out cs = mapped (λ bs. out ++ bs) (bytesOf cs)
 
+same : (o : Option (List ℕ)) → mapped (λ bs. [] ++ bs) o ≡ o
+same None = refl
+same (Some bs) = refl
+
+-- nothing so far
+pub onto-start : (out cs : List ℕ) → out ≡ [] → onto out cs ≡ bytesOf cs
+onto-start out cs e = ap (λ l. onto l cs) e ∙ same (bytesOf cs)
+
 joins : (out : List ℕ) (b : ℕ) (o : Option (List ℕ)) → mapped (λ bs. (out ++ b ∷ []) ++ bs) o ≡ mapped (λ bs. out ++ bs) (front (Some b) o)
 joins out b None = refl
 joins out b (Some bs) = ap Some (append-assoc out (b ∷ []) bs)
@@ -57,13 +64,21 @@ onto-more out now (high ∷ low ∷ cs) b l e p =
     ∙ joins out b (bytesOf cs)
     ∙ ap (λ o. mapped (λ bs. out ++ bs) (front o (bytesOf cs))) (sym e)
 
-front-some : (b : Option ℕ) (o : Option (List ℕ)) → isSome b ≡ true → isSome o ≡ isSome (front b o)
-front-some None o e = cc
-front-some (Some b) None e = refl
-front-some (Some b) (Some bs) e = refl
+front-none : (out : List ℕ) (b : Option ℕ) (o : Option (List ℕ)) → b ≡ None → mapped (λ bs. out ++ bs) (front b o) ≡ None
+front-none out None o e = refl
+front-none out (Some b) o e = cc
 
-pub whole-more : (cs : List ℕ) → 2 ≤ length cs → isSome (byteOf (getD cs 0 0) (getD cs 1 0)) ≡ true → isSome (bytesOf (take (length cs - 2) (drop 2 cs))) ≡ isSome (bytesOf cs)
-whole-more [] l e = absurd (omega arith)
-whole-more (high ∷ []) l e = absurd (omega arith)
-whole-more (high ∷ low ∷ cs) l e =
-    ap (λ ds. isSome (bytesOf ds)) (take-rest (high ∷ low ∷ cs) 2) ∙ front-some (byteOf high low) (bytesOf cs) e
+pub onto-none : (out cs : List ℕ) → 2 ≤ length cs → byteOf (getD cs 0 0) (getD cs 1 0) ≡ None → onto out cs ≡ None
+onto-none out [] l e = absurd (omega arith)
+onto-none out (high ∷ []) l e = absurd (omega arith)
+onto-none out (high ∷ low ∷ cs) l e = front-none out (byteOf high low) (bytesOf cs) e
+
+-- no digit is left, or one
+pub onto-all : (out cs : List ℕ) → length cs ≡ 0 → onto out cs ≡ Some out
+onto-all out [] e = ap Some (append-nil out)
+onto-all out (c ∷ cs) e = absurd (omega arith)
+
+pub onto-odd : (out cs : List ℕ) → length cs ≡ 1 → onto out cs ≡ None
+onto-odd out [] e = absurd (omega arith)
+onto-odd out (c ∷ []) e = refl
+onto-odd out (c ∷ d ∷ cs) e = absurd (omega arith)

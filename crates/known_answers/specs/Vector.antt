@@ -1,14 +1,14 @@
 -- What a line with a known answer states.
 use mathlib.Core.List.{List, [], _∷_}
 use Prim.Native.Nat.{ℕ}
-use Rattle.std.specs.Of.Vec.{vec-items}
 use Rattle.std.specs.Options.{mapped}
 use Rattle.std.specs.declared.option.Option.{Option}
 use Rattle.std.specs.declared.option.Option.the-variants.{Some, None}
 use Rattle.known_answers.specs.declared.vector.Fields.{Fields}
 use Rattle.known_answers.specs.declared.vector.Vector.{Vector}
 use Rattle.known_answers.specs.Cut.{fieldsOf}
-use Rattle.known_answers.specs.Hex.{blockOf, bytesOf}
+use Rattle.known_answers.specs.Hex.{blockOf}
+use Rattle.known_answers.specs.Keys.{held, keyOf}
 
 -- four fields, each as its bytes
 abbrev pub Written : Type 0
@@ -37,19 +37,19 @@ Reading = List ℕ × List ℕ × ℕ × ℕ
 
 -- what a known answer holds
 abbrev pub contents : Vector → Reading
-contents v = (v .description .now, vec-items (v .key), v .text, v .sealed)
+contents v = (v .description .now, held (v .key), v .text, v .sealed)
 
 -- a reading of which all parts are there
-abbrev pub allOf : List ℕ → Option ℕ → Option ℕ → Option (List ℕ) → Option Reading
-allOf description (Some text) (Some sealed) (Some key) = Some (description, key, text, sealed)
-allOf description (Some text) (Some sealed) None = None
-allOf description (Some text) None key = None
-allOf description None sealed key = None
+abbrev pub allOf : List ℕ → Option (List ℕ) → Option ℕ → Option ℕ → Option Reading
+allOf description (Some key) (Some text) (Some sealed) = Some (description, key, text, sealed)
+allOf description (Some key) (Some text) None = None
+allOf description (Some key) None sealed = None
+allOf description None text sealed = None
 
 -- four fields read
 abbrev pub readOf : Option Written → Option Reading
 readOf None = None
-readOf (Some w) = allOf (w .0) (blockOf (w .2)) (blockOf (w .3)) (bytesOf (w .1))
+readOf (Some w) = allOf (w .0) (keyOf (w .1)) (blockOf (w .2)) (blockOf (w .3))
 
 -- a line read
 abbrev pub readingOf : List ℕ → Option Reading

@@ -1,15 +1,13 @@
 // Hexadecimal: digits of either case, the most significant first.
 ghost use mathlib.Core.Path.{_≡_};
 ghost use Prim.Native.Nat.{_+_, _*_, _^_, _<_, _≤_};
+ghost use lib.Dec.{ltb};
 ghost use lib.ListN.{length};
-ghost use Rattle.std.specs.Of.Vec.{vec-items};
-ghost use Rattle.std.specs.Options.{Cases, isSome};
+ghost use Rattle.std.specs.Options.{mapped, Cases};
 ghost use Rattle.std.specs.declared.option.Option.the-variants.{Some};
 ghost use Rattle.known_answers.specs.Hex.{digitOf, paired, byteOf, numberOf, blockOf, bytesOf};
-ghost use Rattle.known_answers.specs.Answers.{Answers};
-use crate::unread::Unread;
-use crate::unread::UnreadFromRefused;
-use std::alloc::Global;
+ghost use Rattle.known_answers.specs.Keys.{held, keyOf};
+use crate::keys::KeyBytes;
 
 // What a digit is worth.
 pub fn digit(c: char) -> Option<u8>
@@ -63,32 +61,38 @@ pub fn block(digits: &[u8]) -> Option<u64>
     }
 }
 
-// Whether the digits write bytes: two to each, and none left over.
-fn whole(digits: &[u8]) -> bool
-    ensures { λ r. ⌜ r ≡ isSome (bytesOf (now (digits .entry))) ⌝ }
+// The bytes that at most 192 digits write, two to a byte.
+fn bytes(digits: &[u8]) -> Option<KeyBytes>
+    requires { ⌜ length (now digits) ≤ 192 ⌝ }
+    ensures { λ r. ⌜ mapped held r ≡ bytesOf (now (digits .entry)) ⌝ }
 {
+    let mut key = KeyBytes::new();
     let mut rest = digits;
     while let [high, low, after @ ..] = rest {
-        if byte(*high, *low).is_none() {
-            return false;
-        }
+        key.push(byte(*high, *low)?);
         rest = after;
     }
-    rest.is_empty()
+    if rest.is_empty() {
+        Some(key)
+    } else {
+        None
+    }
 }
 
-// The bytes that the digits write, two to a byte. Memory is asked for only once they are known to write some.
-pub fn bytes(heap: Global, digits: &[u8]) -> Result<Vec<u8>, Unread>
-    ensures { λ r. ⌜ Answers vec-items r (bytesOf (now (digits .entry))) ⌝ }
+// Whether there are more digits than a key has.
+fn too_many(digits: &[u8]) -> bool
+    ensures { λ r. ⌜ r ≡ ltb 192 (length (now (digits .entry))) ⌝ }
 {
-    if !whole(digits) {
-        return Err(Unread::Malformed);
+    digits.len() > 192
+}
+
+// The key that the digits write, two to a byte; none where they do not, or write more than 96 bytes.
+pub fn key_bytes(digits: &[u8]) -> Option<KeyBytes>
+    ensures { λ r. ⌜ mapped held r ≡ keyOf (now (digits .entry)) ⌝ }
+{
+    if too_many(digits) {
+        None
+    } else {
+        bytes(digits)
     }
-    let mut out = Vec::new(heap);
-    let mut rest = digits;
-    while let [high, low, after @ ..] = rest {
-        out.push(byte(*high, *low).ok_or(Unread::Malformed)?)?;
-        rest = after;
-    }
-    Ok(out)
 }

@@ -2,14 +2,12 @@
 ghost use mathlib.Core.Path.{_≡_};
 ghost use mathlib.Core.List.{[], _∷_};
 ghost use Rattle.std.specs.Options.{mapped, Cases};
-ghost use Rattle.known_answers.specs.Answers.{Answers};
 ghost use Rattle.known_answers.specs.Cut.{fieldsOf};
 ghost use Rattle.known_answers.specs.Vector.{parts, onlyOf, fourOf, contents, readingOf};
 use crate::cut::split;
 use crate::hex::block;
-use crate::hex::bytes;
-use crate::unread::Unread;
-use std::alloc::Global;
+use crate::hex::key_bytes;
+use crate::keys::KeyBytes;
 
 // The four fields of a line, as they are written.
 #[derive(Clone, Copy)]
@@ -24,7 +22,7 @@ pub struct Fields<'a> {
 #[derive(Drop)]
 pub struct Vector<'a> {
     pub description: &'a [u8],
-    pub key: Vec<u8>,
+    pub key: KeyBytes,
     pub text: u64,
     pub sealed: u64,
 }
@@ -62,18 +60,15 @@ pub fn four_fields(line: &[u8]) -> Option<Fields<'_>>
     })
 }
 
-// The known answer that a line states.
-pub fn read<'a>(heap: Global, line: &'a [u8]) -> Result<Vector<'a>, Unread>
-    ensures { λ r. ⌜ Answers contents r (readingOf (now (line .entry))) ⌝ }
+// The known answer that a line states; none where it is not of the form that a line has.
+pub fn read(line: &[u8]) -> Option<Vector<'_>>
+    ensures { λ r. ⌜ mapped contents r ≡ readingOf (now (line .entry)) ⌝ }
 {
-    let written = four_fields(line).ok_or(Unread::Malformed)?;
-    let text = block(written.text).ok_or(Unread::Malformed)?;
-    let sealed = block(written.sealed).ok_or(Unread::Malformed)?;
-    let key = bytes(heap, written.key)?;
-    Ok(Vector {
+    let written = four_fields(line)?;
+    Some(Vector {
         description: written.description,
-        key,
-        text,
-        sealed,
+        key: key_bytes(written.key)?,
+        text: block(written.text)?,
+        sealed: block(written.sealed)?,
     })
 }

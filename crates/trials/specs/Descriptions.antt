@@ -15,9 +15,9 @@ countOf (tens ∷ ones ∷ []) = cond (among 49 57 tens && among 48 57 ones) (So
 countOf (a ∷ b ∷ c ∷ ds) = None
 
 -- a count of 1 to 32
-abbrev pub lawful : Option ℕ → Option ℕ
-lawful None = None
-lawful (Some c) = cond (among 1 32 c) (Some c) None
+abbrev pub withinCycles : Option ℕ → Option ℕ
+withinCycles None = None
+withinCycles (Some c) = cond (among 1 32 c) (Some c) None
 
 -- the four letters of "xtea"
 abbrev pub isXtea : ℕ → ℕ → ℕ → ℕ → Bool
@@ -30,4 +30,4 @@ cyclesOf (x ∷ []) = None
 cyclesOf (x ∷ t ∷ []) = None
 cyclesOf (x ∷ t ∷ e ∷ []) = None
 cyclesOf (x ∷ t ∷ e ∷ a ∷ []) = cond (isXtea x t e a) (Some 32) None
-cyclesOf (x ∷ t ∷ e ∷ a ∷ colon ∷ digits) = cond (isXtea x t e a && eqb colon 58) (lawful (countOf digits)) None
+cyclesOf (x ∷ t ∷ e ∷ a ∷ colon ∷ digits) = cond (isXtea x t e a && eqb colon 58) (withinCycles (countOf digits)) None

@@ -1,3 +1,3 @@
 pub mod Descriptions
-pub mod Reports
+pub mod Runs
 pub mod Verdicts

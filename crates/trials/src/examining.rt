@@ -2,18 +2,14 @@
 ghost use mathlib.Core.Path.{_≡_};
 ghost use lib.ListN.{length};
 ghost use Rattle.std.specs.Options.{Cases};
-ghost use Rattle.std.specs.Vec.{made};
 ghost use Rattle.xtea.specs.Xtea.{xtea};
 ghost use Rattle.known_answers.specs.Vector.{contents};
 ghost use Rattle.trials.specs.Verdicts.{verdictOn, triedOn, verdictOf};
 use crate::descriptions::cycles_named;
 use crate::judging::judge;
 use known_answers::tally::Verdict;
-use known_answers::unread::Unread;
 use known_answers::vector::Vector;
 use known_answers::vector::read;
-use std::alloc::AllocError;
-use std::alloc::Global;
 use xtea::Cycles;
 use xtea::Xtea;
 use xtea::XteaCipher;
@@ -47,13 +43,12 @@ fn attempt(vector: &Vector<'_>) -> Verdict
     xtea_verdict(key, cycles, vector.text, vector.sealed)
 }
 
-// The verdict on a line; an error only for want of memory.
-pub fn examine(heap: Global, line: &[u8]) -> Result<Verdict, AllocError>
-    ensures { λ r. ⌜ made r (λ v. v ≡ verdictOf (now (line .entry))) ⌝ }
+// The verdict on a line.
+pub fn examine(line: &[u8]) -> Verdict
+    ensures { λ r. ⌜ r ≡ verdictOf (now (line .entry)) ⌝ }
 {
-    match read(heap, line) {
-        Ok(vector) => Ok(attempt(&vector)),
-        Err(Unread::Malformed) => Ok(Verdict::Unreadable),
-        Err(Unread::Memory) => Err(AllocError),
+    match read(line) {
+        Some(vector) => attempt(&vector),
+        None => Verdict::Unreadable,
     }
 }

@@ -1,15 +1,14 @@
 // Known answers tried on their cipher.
 //
-// Promises: `examine` gives a line the verdict that the definitions of its reading and of XTEA decide, and `examine_all`
-// gives every line of an input its verdict, in order, with the totals. That a sealed block is opened again both ways is
-// proved of `judge`, which tries it all the same.
+// Promises: `examine` gives every line the verdict that the definitions of its reading and of XTEA decide, and a `Run`
+// gives the lines of an input their verdicts in order and counts each. `judge` says `Ok` only of a text that is the one
+// block sealed to the known one. Nothing refuses, and nothing asks for memory.
 mod descriptions;
 mod examining;
 mod judging;
-mod reporting;
+mod running;
 
 pub use descriptions::cycles_named;
 pub use examining::examine;
 pub use judging::judge;
-pub use reporting::Report;
-pub use reporting::examine_all;
+pub use running::Run;

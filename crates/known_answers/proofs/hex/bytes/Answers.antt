@@ -1,13 +1,19 @@
 use mathlib.Core.Path.{sym, _∙_}
+use Prim.Native.Nat.{_≤_}
+use native.Mathlib.Omega.{arith}
 use borrow.Author.Needs.{needs}
-use Rattle.std.specs.Of.Vec.{vec-items}
-use Rattle.known_answers.proofs.Digits.{onto-more}
+use lib.ListN.{length, length-take, length-drop}
+use Rattle.known_answers.specs.Keys.{held}
+use Rattle.known_answers.proofs.Digits.{onto-start, onto-more, onto-none}
 use Rattle.known_answers.proofs.hex.bytes.Needs as need
+
+pub loop-rest-holds : need.loop-rest-holds
+loop-rest-holds c = (omega (arith, c .new-key .ensures .len), onto-start (held (c .new-key .result)) (c .args .digits .now) (c .new-key .ensures .items))
 
 pub loop-rest-again : need.loop-rest-again
 loop-rest-again c =
-    onto-more (vec-items (c .loop-rest .out)) (vec-items (c .push .last .self)) (c .loop-rest .rest .now) (c .in-Continue-ok-or .field-0)
-    (search needs)
-    (sym (c .byte .ensures) ∙ c .in-Continue-ok-or .ensures tt .back)
-    (c .in-Continue-push .ensures tt .items)
-    ∙ c .loop-rest .inv
+    let two : 2 ≤ length (c .loop-rest .rest .now) = search needs in
+    (simp (length-take, length-drop) (omega (arith, c .push .ensures .len, c .loop-rest .inv .0, two)),
+     onto-more (held (c .loop-rest .key)) (held (c .push .last .self)) (c .loop-rest .rest .now) (c .in-Continue-byte .field-0) two
+     (sym (c .in-Continue-byte .ensures tt)) (c .push .ensures .items)
+     ∙ c .loop-rest .inv .1)
