@@ -7,11 +7,11 @@ ghost use Rattle.ciphers.specs.Maps.{Inverse};
 pub trait Cipher {
     ghost map: { Self → ℕ → ℕ };
 
-    // The map's block.
+    // Encrypts: the map's block.
     fn seal(&self, block: u64) -> u64
         ensures { λ r. ⌜ r ≡ map (now (self .entry)) block ⌝ };
 
-    // Becomes the inverse, in place.
+    // Becomes the inverse, in place: what it sealed, it now opens.
     fn turn(&mut self)
         ensures { λ _. ⌜ Inverse (map (now (self .entry))) (map (now (self .exit))) ⌝ };
 }

@@ -1,6 +1,6 @@
 // One cipher after another.
-ghost use mathlib.Core.Bool.{false};
 ghost use mathlib.Core.Path.{_≡_};
+ghost use mathlib.Core.Bool.{false};
 ghost use Rattle.ciphers.specs.Maps.{composed};
 use crate::interface::Cipher;
 use crate::undoing::Undo;

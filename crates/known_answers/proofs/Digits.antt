@@ -6,11 +6,11 @@ use native.Mathlib.Nat.{pow-le-pow-right}
 use native.Mathlib.Omega.{arith}
 use lib.ListN.{length, getD, take, drop}
 use lib.Pow.{pow-add}
-use Rattle.std.proofs.shelf.Lists.{drop-more, take-rest, append-assoc, append-nil}
 use Rattle.std.specs.Options.{mapped}
-use Rattle.std.specs.shelf.Digits.{numberAfter}
-use Rattle.std.specs.declared.option.Option.{Option}
 use Rattle.std.specs.declared.option.Option.the-variants.{Some, None}
+use Rattle.std.specs.declared.option.Option.{Option}
+use Rattle.std.specs.shelf.Digits.{numberAfter}
+use Rattle.std.proofs.shelf.Lists.{drop-more, take-rest, append-assoc}
 use Rattle.known_answers.specs.Hex.{digitOf, front, paired, byteOf, valuesOf, bytesOf}
 
 -- what i digits write is below 16 ^ i, so there is room for one more of sixteen
@@ -63,22 +63,3 @@ onto-more out now (high ∷ low ∷ cs) b l e p =
     ∙ ap (λ bs. onto bs cs) p
     ∙ joins out b (bytesOf cs)
     ∙ ap (λ o. mapped (λ bs. out ++ bs) (front o (bytesOf cs))) (sym e)
-
-front-none : (out : List ℕ) (b : Option ℕ) (o : Option (List ℕ)) → b ≡ None → mapped (λ bs. out ++ bs) (front b o) ≡ None
-front-none out None o e = refl
-front-none out (Some b) o e = cc
-
-pub onto-none : (out cs : List ℕ) → 2 ≤ length cs → byteOf (getD cs 0 0) (getD cs 1 0) ≡ None → onto out cs ≡ None
-onto-none out [] l e = absurd (omega arith)
-onto-none out (high ∷ []) l e = absurd (omega arith)
-onto-none out (high ∷ low ∷ cs) l e = front-none out (byteOf high low) (bytesOf cs) e
-
--- no digit is left, or one
-pub onto-all : (out cs : List ℕ) → length cs ≡ 0 → onto out cs ≡ Some out
-onto-all out [] e = ap Some (append-nil out)
-onto-all out (c ∷ cs) e = absurd (omega arith)
-
-pub onto-odd : (out cs : List ℕ) → length cs ≡ 1 → onto out cs ≡ None
-onto-odd out [] e = absurd (omega arith)
-onto-odd out (c ∷ []) e = refl
-onto-odd out (c ∷ d ∷ cs) e = absurd (omega arith)

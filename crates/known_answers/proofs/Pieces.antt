@@ -8,13 +8,13 @@ use native.Mathlib.Numerals.{add-one}
 use native.Mathlib.Omega.{arith}
 use lib.Dec.{eqb}
 use lib.ListN.{length, getD, take, drop}
+use Rattle.std.specs.Options.{mapped}
+use Rattle.std.specs.declared.option.Option.the-variants.{Some, None}
+use Rattle.std.specs.declared.option.Option.{Option}
 use Rattle.std.proofs.shelf.Lists.{take-rest, nil-from-length}
 use Rattle.std.proofs.shelf.Tests.{cond-true, cond-false, cond-both, eq-eqb, ne-eqb}
-use Rattle.std.specs.Options.{mapped}
-use Rattle.std.specs.declared.option.Option.{Option}
-use Rattle.std.specs.declared.option.Option.the-variants.{Some, None}
-use Rattle.known_answers.specs.Vector.{onlyOf}
 use Rattle.known_answers.specs.Cut.{splitAt, lengthened, linesOf, fieldsOf}
+use Rattle.known_answers.specs.Vector.{onlyOf}
 
 -- a text's first byte in front of what stands before the mark
 abbrev led : ℕ → List ℕ × List ℕ → List ℕ × List ℕ

@@ -1,11 +1,11 @@
--- A text cut at marks.
+-- A text cut at marks. Assumes nothing.
 use mathlib.Core.Bool.{cond}
 use mathlib.Core.List.{List, [], _∷_}
 use Prim.Native.Nat.{ℕ}
 use lib.Dec.{eqb}
 use Rattle.std.specs.Options.{mapped}
-use Rattle.std.specs.declared.option.Option.{Option}
 use Rattle.std.specs.declared.option.Option.the-variants.{Some, None}
+use Rattle.std.specs.declared.option.Option.{Option}
 
 -- what stands before the first mark and what stands after it
 abbrev pub splitAt : ℕ → List ℕ → Option (List ℕ × List ℕ)

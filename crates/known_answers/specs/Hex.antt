@@ -1,13 +1,13 @@
--- What hexadecimal digits write, the most significant first.
+-- What hexadecimal digits write, the most significant first. Assumes nothing.
 use mathlib.Core.Bool.{Bool, cond, _&&_}
 use mathlib.Core.List.{List, [], _∷_}
 use Prim.Native.Nat.{ℕ, _+_, _-_, _*_}
 use lib.Dec.{leb, eqb}
 use lib.ListN.{length}
 use Rattle.std.specs.Options.{mapped}
-use Rattle.std.specs.shelf.Digits.{number}
-use Rattle.std.specs.declared.option.Option.{Option}
 use Rattle.std.specs.declared.option.Option.the-variants.{Some, None}
+use Rattle.std.specs.declared.option.Option.{Option}
+use Rattle.std.specs.shelf.Digits.{number}
 
 -- whether c lies between two characters, both of them included
 abbrev pub among : ℕ → ℕ → ℕ → Bool

@@ -1,9 +1,9 @@
--- The lines of an input that are still to come.
+-- The lines of an input that are still to come. Assumes nothing.
 use mathlib.Core.Path.{_≡_}
 use mathlib.Core.List.{List, [], _∷_}
 use Prim.Native.Nat.{ℕ}
-use Rattle.std.specs.declared.option.Option.{Option}
 use Rattle.std.specs.declared.option.Option.the-variants.{Some, None}
+use Rattle.std.specs.declared.option.Option.{Option}
 use Rattle.known_answers.specs.declared.lines.Lines.{Lines}
 use Rattle.known_answers.specs.Cut.{linesOf}
 

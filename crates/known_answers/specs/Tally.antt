@@ -1,8 +1,8 @@
--- Verdicts counted by their kind.
+-- Verdicts counted by their kind. Assumes nothing.
 use Prim.Native.Nat.{ℕ, _+_, _-_, _^_, min}
 use Rattle.known_answers.specs.declared.tally.Tally.{Tally}
-use Rattle.known_answers.specs.declared.tally.Verdict.{Verdict}
 use Rattle.known_answers.specs.declared.tally.Verdict.the-variants.{Ok, Differs, Unreadable}
+use Rattle.known_answers.specs.declared.tally.Verdict.{Verdict}
 
 -- nothing counted yet
 abbrev pub none : Tally

@@ -1,9 +1,9 @@
--- What a line with a known answer states.
+-- What a line with a known answer states. Assumes nothing.
 use mathlib.Core.List.{List, [], _∷_}
 use Prim.Native.Nat.{ℕ}
 use Rattle.std.specs.Options.{mapped}
-use Rattle.std.specs.declared.option.Option.{Option}
 use Rattle.std.specs.declared.option.Option.the-variants.{Some, None}
+use Rattle.std.specs.declared.option.Option.{Option}
 use Rattle.known_answers.specs.declared.vector.Fields.{Fields}
 use Rattle.known_answers.specs.declared.vector.Vector.{Vector}
 use Rattle.known_answers.specs.Cut.{fieldsOf}

@@ -72,11 +72,7 @@ fn bytes(digits: &[u8]) -> Option<KeyBytes>
         key.push(byte(*high, *low)?);
         rest = after;
     }
-    if rest.is_empty() {
-        Some(key)
-    } else {
-        None
-    }
+    if rest.is_empty() { Some(key) } else { None }
 }
 
 // Whether there are more digits than a key has.

@@ -3,7 +3,7 @@ ghost use mathlib.Core.Path.{_≡_};
 ghost use Rattle.known_answers.specs.Tally.{none, counted};
 
 // How a known answer came out.
-#[derive(Clone, Copy, Debug, PartialEq, Eq)]
+#[derive(Clone, Copy)]
 pub enum Verdict {
     Ok,
     // The block that came in place of the known one.
@@ -12,7 +12,7 @@ pub enum Verdict {
 }
 
 // The verdicts of each kind; a total stays at the largest `usize` once it is there.
-#[derive(Clone, Copy, Debug, PartialEq, Eq)]
+#[derive(Clone, Copy)]
 pub struct Tally {
     pub ok: usize,
     pub differs: usize,

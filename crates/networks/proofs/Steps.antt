@@ -29,7 +29,7 @@ module _ {W : Type 0} (N : Network W) where
   unfolding unrounds
   unrounds-cons k ks h = refl
 
-  pub unrounds-push : (ks : List ℕ) (k : ℕ) (h : Halves W) → unrounds N (ks ++ k ∷ []) h ≡ unrounds N ks (unround N k h)
+  unrounds-push : (ks : List ℕ) (k : ℕ) (h : Halves W) → unrounds N (ks ++ k ∷ []) h ≡ unrounds N ks (unround N k h)
   unfolding unrounds
   unrounds-push [] k h = refl
   unrounds-push (x ∷ ks) k h = ap (unround N x) (unrounds-push ks k h)

@@ -1,11 +1,12 @@
 -- Both ways back of a Feistel network agree, and undo the run. Assumes nothing.
 use mathlib.Core.Path.{_≡_, refl, sym, ap, ap₂, _∙_}
-use mathlib.Core.Bool.{Bool, true, false, not, cond}
+use mathlib.Core.Bool.{true, false, not, cond, Bool·not-not}
 use mathlib.Core.List.{List, [], _∷_, reverse, reverse-cons, reverse-reverse}
 use Prim.Native.Nat.{ℕ}
 use Rattle.groups.specs.Laws.{Lawful}
 use Rattle.networks.specs.declared.pairs.Halves.{Halves}
-use Rattle.networks.specs.Rounds.{Network, swapped, applied, round, rounds, unround, unrounds, ran, unran, turned, Words, Inverses}
+use Rattle.networks.specs.Inverses.{Inverses}
+use Rattle.networks.specs.Rounds.{Network, swapped, applied, round, rounds, unround, unrounds, ran, unran, turned, Words}
 use Rattle.networks.proofs.Steps.{rounds-none, rounds-cons, rounds-push, unrounds-none, unrounds-cons}
 
 -- over a lawful group, and a round function whose values are words
@@ -78,22 +79,18 @@ module _ {W : Type 0} {fits : W → Type 0} {neutral : W} (N : Network W) (laws 
   ran-fits : (h : Halves W) → Words fits h → Words fits (ran N h)
   ran-fits h p = let both = rounds-fits (N .words) h p in (both .1, both .0)
 
-not-not : (b : Bool) → not (not b) ≡ b
-not-not true = refl
-not-not false = refl
-
 -- a second turn takes the first back
 pub turned-turned : {W : Type 0} (N : Network W) → turned (turned N) ≡ N
 turned-turned N =
     ap₂ (λ b ws. record { joined = N .joined; inverted = N .inverted; function = N .function; inverting = b; words = ws })
-    (not-not (N .inverting)) (reverse-reverse (N .words))
+    (Bool·not-not (N .inverting)) (reverse-reverse (N .words))
 
 -- a network and the turned one are inverses: what holds from one side holds from the other, since the second turn takes the first back
 module _ {W : Type 0} {fits : W → Type 0} {neutral : W} (N : Network W) (laws : Lawful fits neutral (N .joined) (N .inverted)) (values : (half : W) (word : ℕ) → fits (N .function half word)) where
   pub back-and-forth : (h : Halves W) → Words fits h → ran N (ran (turned N) h) ≡ h
   back-and-forth h p = sym (ap (λ M. ran M (ran (turned N) h)) (turned-turned N)) ∙ there-and-back (turned N) laws values h p
 
-  pub inverses : Inverses fits N (turned N)
+  pub inverses : Inverses (Words fits) (ran N) (ran (turned N))
   inverses = record {
     keeps = ran-fits N laws values;
     keeps-back = ran-fits (turned N) laws values;

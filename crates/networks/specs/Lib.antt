@@ -1,3 +1,4 @@
+pub mod Inverses
 pub mod Networks
 pub mod Rounds
 pub mod Schedules

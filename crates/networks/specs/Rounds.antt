@@ -1,5 +1,4 @@
 -- Feistel networks and both of their ways back. Assumes nothing.
-use mathlib.Core.Path.{_≡_}
 use mathlib.Core.Bool.{Bool, not, cond}
 use mathlib.Core.List.{List, [], _∷_, reverse}
 use Prim.Native.Nat.{ℕ}
@@ -53,10 +52,3 @@ module _ {W : Type 0} (N : Network W) where
 -- both halves are words
 abbrev pub Words : {W : Type 0} → (W → Type 0) → Halves W → Type 0
 Words fits h = fits (h .left) × fits (h .right)
-
--- on words, two networks give words and take back what the other makes, in either order
-pub record Inverses {W : Type 0} (fits : W → Type 0) (N T : Network W) : Type 0 where
-  pub keeps : (h : Halves W) → Words fits h → Words fits (ran N h)
-  pub keeps-back : (h : Halves W) → Words fits h → Words fits (ran T h)
-  pub back : (h : Halves W) → Words fits h → ran T (ran N h) ≡ h
-  pub forth : (h : Halves W) → Words fits h → ran N (ran T h) ≡ h

@@ -1,11 +1,12 @@
 // Feistel networks over any group and round function.
-ghost use mathlib.Core.Bool.{false};
-ghost use lib.ListN.{length};
-ghost use mathlib.Core.List.{[], _∷_, _++_};
 ghost use mathlib.Core.Path.{_≡_};
+ghost use mathlib.Core.Bool.{false};
+ghost use mathlib.Core.List.{[], _∷_, _++_};
+ghost use lib.ListN.{length};
 ghost use Rattle.std.specs.Options.{Cases};
+ghost use Rattle.networks.specs.Inverses.{Inverses};
 ghost use Rattle.networks.specs.Networks.{network};
-ghost use Rattle.networks.specs.Rounds.{applied, round, rounds, unround, unrounds, ran, unran, turned, Words, Inverses};
+ghost use Rattle.networks.specs.Rounds.{applied, round, rounds, unround, unrounds, ran, unran, turned, Words};
 ghost use Rattle.networks.specs.Schedules.{roundWords};
 use crate::functions::RoundFunction;
 use crate::pairs::Halves;
@@ -13,6 +14,8 @@ use crate::schedules::Schedule;
 use groups::Group;
 use std::marker::PhantomData;
 
+// A Feistel network with a final swap: a round function, its round words (round keys), and whether its values are
+// inverted in the group, as they are once the network is turned.
 #[derive(Drop)]
 pub struct Feistel<G: Group, F: RoundFunction<Half = G::Word>> {
     function: F,
@@ -77,10 +80,18 @@ impl<G: Group, F: RoundFunction<Half = G::Word>> Feistel<G, F> {
     }
 
     // The rounds in order, and then the swap.
-    pub fn run(&self, halves: Halves<G::Word>) -> Halves<G::Word>
+    fn ran(&self, halves: Halves<G::Word>) -> Halves<G::Word>
         ensures { λ r. ⌜ r ≡ ran (network G·Group F·RoundFunction (now (self .entry))) halves ⌝ }
     {
         self.rounds(halves).swap()
+    }
+
+    // What the network makes of the halves. The turned network takes it back.
+    pub fn run(&self, halves: Halves<G::Word>) -> Halves<G::Word>
+        ensures value { λ r. ⌜ r ≡ ran (network G·Group F·RoundFunction (now (self .entry))) halves ⌝ }
+        ensures back { λ r. ⌜ (Words (Word·Word .fits) halves → ran (turned (network G·Group F·RoundFunction (now (self .entry)))) r ≡ halves) ⌝ }
+    {
+        self.ran(halves)
     }
 
     // The rounds taken back, the last one first.
@@ -124,7 +135,7 @@ impl<G: Group, F: RoundFunction<Half = G::Word>> Feistel<G, F> {
     pub fn turn(&mut self)
         ensures network { λ _. ⌜ network G·Group F·RoundFunction (now (self .exit)) ≡ turned (network G·Group F·RoundFunction (now (self .entry))) ⌝ }
         ensures again { λ _. ⌜ turned (network G·Group F·RoundFunction (now (self .exit))) ≡ network G·Group F·RoundFunction (now (self .entry)) ⌝ }
-        ensures inverse { λ _. ⌜ Inverses (Word·Word .fits) (network G·Group F·RoundFunction (now (self .entry))) (network G·Group F·RoundFunction (now (self .exit))) ⌝ }
+        ensures inverse { λ _. ⌜ Inverses (Words (Word·Word .fits)) (ran (network G·Group F·RoundFunction (now (self .entry)))) (ran (network G·Group F·RoundFunction (now (self .exit)))) ⌝ }
     {
         self.reverse();
     }

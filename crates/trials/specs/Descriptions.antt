@@ -3,9 +3,9 @@ use mathlib.Core.Bool.{Bool, cond, _&&_}
 use mathlib.Core.List.{List, [], _∷_}
 use Prim.Native.Nat.{ℕ, _+_, _-_, _*_}
 use lib.Dec.{eqb}
-use Rattle.known_answers.specs.Hex.{among}
-use Rattle.std.specs.declared.option.Option.{Option}
 use Rattle.std.specs.declared.option.Option.the-variants.{Some, None}
+use Rattle.std.specs.declared.option.Option.{Option}
+use Rattle.known_answers.specs.Hex.{among}
 
 -- the number that one or two decimal digits write, the first of them not 0
 abbrev pub countOf : List ℕ → Option ℕ

@@ -2,13 +2,13 @@
 use mathlib.Core.Path.{_≡_}
 use mathlib.Core.List.{List, [], _∷_, map}
 use Prim.Native.Nat.{ℕ}
-use Rattle.std.specs.declared.option.Option.{Option}
 use Rattle.std.specs.declared.option.Option.the-variants.{Some, None}
+use Rattle.std.specs.declared.option.Option.{Option}
+use Rattle.known_answers.specs.declared.tally.Tally.{Tally}
+use Rattle.known_answers.specs.declared.tally.Verdict.{Verdict}
 use Rattle.known_answers.specs.Cut.{linesOf}
 use Rattle.known_answers.specs.Lines.{leftOf}
 use Rattle.known_answers.specs.Tally.{none, counted}
-use Rattle.known_answers.specs.declared.tally.Tally.{Tally}
-use Rattle.known_answers.specs.declared.tally.Verdict.{Verdict}
 use Rattle.trials.specs.declared.running.Run.{Run}
 use Rattle.trials.specs.Verdicts.{verdictOf}
 

@@ -4,12 +4,12 @@ use mathlib.Core.List.{List}
 use Prim.Native.Nat.{ℕ}
 use lib.Dec.{eqb}
 use lib.ListN.{length}
-use Rattle.std.specs.declared.option.Option.{Option}
 use Rattle.std.specs.declared.option.Option.the-variants.{Some, None}
+use Rattle.std.specs.declared.option.Option.{Option}
 use Rattle.xtea.specs.Xtea.{xtea}
-use Rattle.known_answers.specs.Vector.{Reading, readingOf}
-use Rattle.known_answers.specs.declared.tally.Verdict.{Verdict}
 use Rattle.known_answers.specs.declared.tally.Verdict.the-variants.{Ok, Differs, Unreadable}
+use Rattle.known_answers.specs.declared.tally.Verdict.{Verdict}
+use Rattle.known_answers.specs.Vector.{Reading, readingOf}
 use Rattle.trials.specs.Descriptions.{cyclesOf}
 
 -- of the block that was got where another is known

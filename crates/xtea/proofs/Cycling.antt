@@ -1,21 +1,19 @@
 -- Two rounds of the network are a cycle, and the swaps behind the rounds take each other back. Assumes nothing.
-use mathlib.Core.Path.{_≡_, sym, ap, ap₂, _∙_}
+use mathlib.Core.Path.{_≡_, sym, ap, _∙_}
 use mathlib.Core.Bool.{Bool, false}
 use mathlib.Core.List.{List, [], _∷_, _++_, append-assoc}
-use Prim.Native.Nat.{ℕ, zero, suc, _+_, _*_, _/_, _%_, _^_, _<_}
+use Prim.Native.Nat.{ℕ, zero, suc, _+_, _^_, _<_}
 use native.Mathlib.Omega.{arith}
-use Rattle.groups.specs.Sums.{sum, negative}
 use Rattle.networks.specs.declared.pairs.Halves.{Halves}
 use Rattle.networks.specs.Rounds.{Network, Words, swapped, round, rounds}
 use Rattle.networks.proofs.Steps.{rounds-none, rounds-push}
 use Rattle.ciphers.specs.Blocks.{halvesOf, blockOf, feistel, halvesSwapped}
 use Rattle.ciphers.specs.Maps.{composed}
-use Rattle.xtea.specs.Xtea.{mixed, firstWord, secondWord, cycle, cycled, wordsOf, xtea}
+use Rattle.ciphers.proofs.Halves.{halves-block}
+use Rattle.xtea.specs.Sealing.{networkOf}
+use Rattle.xtea.specs.Xtea.{firstWord, secondWord, cycle, cycled, wordsOf, xtea}
 
--- XTEA's network of some round words, turned or not
-abbrev networkOf : Bool → List ℕ → Network ℕ
-networkOf turned ws = record { joined = sum (2 ^ 32); inverted = negative (2 ^ 32); function = mixed; inverting = turned; words = ws }
-
+-- a network that has not been turned
 abbrev plain : List ℕ → Network ℕ
 plain ws = networkOf false ws
 
@@ -30,12 +28,6 @@ rounds-cycled key ws (suc j) h =
     ∙ rounds-push N (wordsOf key j ++ x ∷ []) y h
     ∙ ap (round N y) (rounds-push N (wordsOf key j) x h)
     ∙ ap (cycle key j) (rounds-cycled key ws j h)
-
-halves-block : (h : Halves ℕ) → Words (λ x. x < 2 ^ 32) h → halvesOf (blockOf h) ≡ h
-halves-block h p =
-    let left : (h .left * 2 ^ 32 + h .right) / 2 ^ 32 ≡ h .left = omega arith in
-    let right : (h .left * 2 ^ 32 + h .right) % 2 ^ 32 ≡ h .right = omega arith in
-    ap₂ (λ l r. record { left = l; right = r }) left right
 
 swapped-back : (h : Halves ℕ) → Words (λ x. x < 2 ^ 32) h → halvesSwapped (blockOf (swapped h)) ≡ blockOf h
 swapped-back h p = ap (λ g. blockOf (swapped g)) (halves-block (swapped h) (p .1, p .0))

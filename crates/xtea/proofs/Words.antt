@@ -8,7 +8,7 @@ use lib.ListN.{length, take, set, length-set}
 use Rattle.std.proofs.shelf.Lists.{take-more-set}
 use Rattle.xtea.specs.Xtea.{firstWord, secondWord, wordsOf}
 
-pub words-more : (key : List ℕ) (j : ℕ) → wordsOf key (j + 1) ≡ wordsOf key j ++ (firstWord key j ∷ secondWord key j ∷ [])
+words-more : (key : List ℕ) (j : ℕ) → wordsOf key (j + 1) ≡ wordsOf key j ++ (firstWord key j ∷ secondWord key j ∷ [])
 unfolding wordsOf
 words-more key j = ap (wordsOf key) (add-one j)
 

@@ -1,6 +1,6 @@
 // XTEA as a cipher: a Feistel network of two rounds for each cycle, and then the halves swapped.
-ghost use mathlib.Core.Bool.{false};
 ghost use mathlib.Core.Path.{_≡_};
+ghost use mathlib.Core.Bool.{false};
 ghost use Prim.Native.Nat.{ℕ, _^_, _<_};
 ghost use Rattle.networks.specs.Schedules.{roundWords};
 ghost use Rattle.xtea.specs.Sealing.{sealing};

@@ -3,7 +3,7 @@ ghost use mathlib.Core.Path.{_≡_};
 ghost use Prim.Native.Nat.{_≤_};
 ghost use Rattle.std.specs.Options.{Cases};
 
-// 1 to 32 cycles
+// A number from 1 to 32.
 #[derive(Clone, Copy)]
 pub struct Cycles {
     count: usize,

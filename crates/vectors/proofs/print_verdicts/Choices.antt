@@ -1,3 +1,4 @@
+-- What the loop of `print_verdicts` keeps. Assumes nothing.
 use mathlib.Core.Path.{_≡_}
 use lib.ListN.{length}
 use Rattle.known_answers.specs.Tally.{none}

@@ -1,3 +1,4 @@
+-- `split` meets its contract. Assumes nothing.
 use mathlib.Core.Path.{sym}
 use native.Mathlib.Omega.{arith}
 use Rattle.known_answers.proofs.Pieces.{split-some, split-none}

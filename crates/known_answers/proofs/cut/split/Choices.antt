@@ -1,3 +1,4 @@
+-- What the loop of `split` keeps. Assumes nothing.
 use mathlib.Core.Path.{_≡_}
 use Prim.Native.Nat.{ℕ, _<_}
 use lib.ListN.{getD}

@@ -1,10 +1,11 @@
+-- `first_field` meets its contract. Assumes nothing.
 use mathlib.Core.Path.{_≡_}
 use mathlib.Core.List.{List, [], _∷_}
 use Prim.Native.Nat.{ℕ}
 use denote.Ref.{RefT}
 use Rattle.std.specs.Options.{mapped, Cases}
-use Rattle.std.specs.declared.option.Option.{Option}
 use Rattle.std.specs.declared.option.Option.the-variants.{Some, None}
+use Rattle.std.specs.declared.option.Option.{Option}
 use Rattle.known_answers.specs.Cut.{splitAt, fieldsOf}
 use Rattle.known_answers.proofs.Pieces.{fields-some, fields-none}
 use Rattle.known_answers.proofs.vector.first_field.Needs as need

@@ -1,3 +1,4 @@
+-- `last_field` meets its contract. Assumes nothing.
 use Rattle.known_answers.proofs.Pieces.{only-some, only-none}
 use Rattle.known_answers.proofs.vector.last_field.Needs as need
 

@@ -1,3 +1,4 @@
+-- What the loop of `key_schedule` keeps. Assumes nothing.
 use mathlib.Core.Path.{_≡_}
 use Prim.Native.Nat.{_*_}
 use lib.ListN.{length, take}

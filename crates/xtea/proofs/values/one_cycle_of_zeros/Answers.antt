@@ -1,3 +1,4 @@
+-- `one_cycle_of_zeros` meets its contract. Assumes nothing.
 use mathlib.Core.Path.{_≡_, refl, _∙_}
 use lib.ListN.{replicate}
 use Rattle.xtea.specs.Xtea.{cycled, xtea}

@@ -1,7 +1,7 @@
--- The laws of exclusive or on words.
+-- `Xor32Group` shows what its trait asks. Assumes nothing.
 use mathlib.Core.Path.{refl}
-use lib.Bits.{xor-assoc, xor-lt, xor-self, xor-zero-r}
 use native.Mathlib.Omega.{arith}
+use lib.Bits.{xor-assoc, xor-lt, xor-self, xor-zero-r}
 use Rattle.groups.proofs.xor.Xor32Group.the-impl.Needs as need
 
 pub lawful-law : need.lawful-law

@@ -1,3 +1,4 @@
+-- `Feistel::rounds` meets its contract. Assumes nothing.
 use mathlib.Core.Path.{refl, ap, _∙_}
 use Rattle.networks.specs.Networks.{network}
 use Rattle.networks.specs.Rounds.{rounds}

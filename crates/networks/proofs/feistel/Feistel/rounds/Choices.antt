@@ -1,3 +1,4 @@
+-- What the loop of `Feistel::rounds` keeps. Assumes nothing.
 use mathlib.Core.Path.{_≡_}
 use lib.ListN.{drop}
 use Rattle.networks.specs.Networks.{network}

@@ -1,6 +1,8 @@
+-- `Feistel::turn` meets its contract. Assumes nothing.
 use mathlib.Core.Path.{sym, ap, subst, _∙_}
+use Rattle.networks.specs.Inverses.{Inverses}
 use Rattle.networks.specs.Networks.{network}
-use Rattle.networks.specs.Rounds.{turned, Inverses}
+use Rattle.networks.specs.Rounds.{Words, ran, turned}
 use Rattle.networks.proofs.WaysBack.{inverses, turned-turned}
 use Rattle.networks.proofs.feistel.Feistel.turn.Needs as need
 
@@ -12,5 +14,5 @@ returns g c =
     record {
       network = c .reverse .ensures;
       again = ap turned (c .reverse .ensures) ∙ turned-turned N;
-      inverse = subst (Inverses (g .Word·Word .fits) N) (sym (c .reverse .ensures)) (inverses N laws values);
+      inverse = subst (λ M. Inverses (Words (g .Word·Word .fits)) (ran N) (ran M)) (sym (c .reverse .ensures)) (inverses N laws values);
     }

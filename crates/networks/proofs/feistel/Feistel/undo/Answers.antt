@@ -1,3 +1,4 @@
+-- `Feistel::undo` meets its contract. Assumes nothing.
 use mathlib.Core.Path.{_≡_, ap, _∙_}
 use Rattle.networks.specs.Networks.{network}
 use Rattle.networks.specs.Rounds.{ran, turned}

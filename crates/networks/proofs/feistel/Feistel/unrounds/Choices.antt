@@ -1,3 +1,4 @@
+-- What the loop of `Feistel::unrounds` keeps. Assumes nothing.
 use mathlib.Core.Path.{_≡_}
 use lib.ListN.{length}
 use Rattle.networks.specs.Networks.{network}

@@ -1,3 +1,4 @@
+-- `Schedule::reverse` meets its contract. Assumes nothing.
 use mathlib.Core.Path.{_≡_, _∙_, ap}
 use mathlib.Core.List.{reverse}
 use native.Mathlib.Nat.{sub-zero}

@@ -1,3 +1,4 @@
+-- `Xtea::new` meets its contract. Assumes nothing.
 use Rattle.xtea.proofs.Cycling.{sealed-new}
 use Rattle.xtea.proofs.cipher.Xtea.new.Needs as need
 

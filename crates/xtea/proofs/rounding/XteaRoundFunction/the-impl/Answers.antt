@@ -1,3 +1,4 @@
+-- `XteaRoundFunction` shows what its trait asks. Assumes nothing.
 use Prim.Native.Nat.{_+_, _*_, _/_, _%_, _^_}
 use native.Mathlib.Omega.{arith}
 use lib.Bits.{bitXor, xor-lt}
