@@ -5,6 +5,8 @@
 // cipher's map: a pass is cipher block chaining, block by block. A refusal changes nothing. `serve` does the calls of a
 // session in order. `mirror` carries the session law: a second bench, turned once and given a session as the first left
 // it, gives back what the first was brought. Nothing asks for memory.
+#![tactic(auto)]
+
 mod bench;
 mod calls;
 mod direction;

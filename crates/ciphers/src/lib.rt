@@ -4,6 +4,8 @@
 // the new one undo each other, in either order, on every block. An implementation of `Undo` takes a sealing back without
 // turning, and `ways_back` shows that both ways agree. Every Feistel network over 32-bit words, the swap of halves and
 // every pair of ciphers are such ciphers; a pair is proved against the maps of its parts alone. No call refuses.
+#![tactic(auto)]
+
 mod feistels;
 mod interface;
 mod sequence;

@@ -3,6 +3,8 @@
 // Promises: every implementation of `Group` is lawful on all words of its type. The join is associative, the neutral
 // word on either side changes nothing, and a word joined with its inverse, on either side, is neutral. No call refuses.
 // Nothing assumes that a join commutes.
+#![tactic(auto)]
+
 mod lawful;
 mod sums16;
 mod sums32;

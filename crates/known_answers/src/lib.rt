@@ -2,6 +2,8 @@
 //
 // The crate cuts an input into lines, reads a line and counts verdicts; it knows no cipher. Promises: a function answers
 // what its definition in specs/ gives, and answers none exactly where the definition gives none. Nothing asks for memory.
+#![tactic(auto)]
+
 mod cut;
 pub mod hex;
 pub mod keys;

@@ -4,6 +4,8 @@
 // `Feistel::run` answers what the definition of the network says; `turn` reverses the round words and inverts the
 // function's values, and the turned network is the inverse; undoing the rounds and running the turned network make the
 // same of any halves (`undo`, `ways_back`). No call refuses.
+#![tactic(auto)]
+
 mod feistel;
 mod functions;
 mod pairs;

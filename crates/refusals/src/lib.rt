@@ -1,6 +1,8 @@
 // Refusals: why a call turned its caller away.
 //
 // Promises: every refusal is told by the number and the place that one definition gives its case.
+#![tactic(auto)]
+
 mod notices;
 mod reasons;
 

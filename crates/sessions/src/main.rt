@@ -1,6 +1,8 @@
 // Reads sessions from standard input, runs each on two benches over XTEA, and prints what every call brought, what the
 // first bench left and answered, and what the second made of that. Both run over one session, so what the first left is
 // shown by a further bench under the same key.
+#![tactic(auto)]
+
 ghost use Rattle.std.specs.Prelude.{◌≡◌, ◌≤◌, [], ◌∷◌, ◌++◌, length, OnOk};
 ghost use Rattle.chaining.specs.Sessions.{asked, requests};
 ghost use Rattle.known_answers.specs.Lines.{left_of};

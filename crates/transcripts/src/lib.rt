@@ -3,6 +3,8 @@
 // Promises: a line is read as its definition says, whatever it is, or the answer is that memory is wanting. A session
 // that is run on two benches over XTEA holds afterwards what it brought, and every call has two answers that are the
 // same.
+#![tactic(auto)]
+
 mod comparing;
 mod copies;
 mod hex_text;

@@ -1,4 +1,6 @@
 // Reads known answers from standard input, seals and opens each, and prints a verdict for each line and then the totals.
+#![tactic(auto)]
+
 ghost use Rattle.std.specs.Prelude.{◌≡◌, IfOk};
 ghost use Rattle.known_answers.specs.Tally.{none};
 ghost use Rattle.trials.specs.Runs.{verdicts_of, tallied};
