@@ -11,7 +11,7 @@ pub loop-rest-preserved : goal.loop-rest-preserved
 loop-rest-preserved c =
     let two : 2 ≤ length c.loop-rest.rest.now = search rules in (
       simp (length-take, length-drop) (omega (arith, c.push.ensures.len, c.loop-rest.invariant.0, two)),
-      onto_more (held c.loop-rest.key) (held c.push.new.self) c.loop-rest.rest.now c.in-ok-byte.field-0 two
-          (sym c.in-ok-byte.ensures) c.push.ensures.items
+      onto_more (held c.loop-rest.key) (held c.push.new.self) c.loop-rest.rest.now c.in_ok-byte.field-0 two
+          (sym c.in_ok-byte.ensures) c.push.ensures.items
           ∙ c.loop-rest.invariant.1,
     )

@@ -15,9 +15,9 @@ returns-in-err-value c =
 
 pub loop-c-preserved : goal.loop-c-preserved
 loop-c-preserved c =
-    let told = c.in-ok-value.ensures in (
-      room_more c.loop-c.value c.in-ok-value.value c.loop-c.c-index c.loop-c.invariant.0 told.within,
-      sym (after_more c.args.digits.now c.loop-c.c-index c.loop-c.value c.in-ok-value.value (omega arith) told.value)
+    let told = c.in_ok-value.ensures in (
+      room_more c.loop-c.value c.in_ok-value.value c.loop-c.c-index c.loop-c.invariant.0 told.within,
+      sym (after_more c.args.digits.now c.loop-c.c-index c.loop-c.value c.in_ok-value.value (omega arith) told.value)
           ∙ c.loop-c.invariant.1,
     )
 

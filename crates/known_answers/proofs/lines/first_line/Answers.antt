@@ -9,10 +9,10 @@ returns-in-Some c =
     lines_some c.args.text.now (c.in-Some.parts.0.now, c.in-Some.parts.1.now) c.in-Some.ensures
 
 pub returns-in-None : goal.returns-in-None
-returns-in-None c = lines_empty c.args.text.now (eqb-true _ 0 (sym c.if-is-empty.ensures))
+returns-in-None c = lines_empty c.args.text.now (eqb-true _ 0 (sym c.if-is_empty.ensures))
 
 pub returns-in-None-2 : goal.returns-in-None-2
 returns-in-None-2 c =
     lines_none c.args.text.now
-    (omega (arith, eqb-false (length c.args.text.now) 0 (sym c.if-is-empty.ensures)))
+    (omega (arith, eqb-false (length c.args.text.now) 0 (sym c.if-is_empty.ensures)))
     c.in-None-2.ensures
