@@ -7,10 +7,10 @@ use Rattle.known_answers.proofs.hex.number.Goals as goal
 pub grown-requires : goal.grown-requires
 grown-requires c = room c.loop-c.value c.loop-c.c-index c.loop-c.invariant.0 (omega arith)
 
-pub returns-in-err-value : goal.returns-in-err-value
-returns-in-err-value c =
-    c.from-residual.ensures
-    ∙ sym (after_none c.args.digits.now c.loop-c.c-index c.loop-c.value (omega arith) c.in-err-value.ensures.value)
+pub returns-in_err-value : goal.returns-in_err-value
+returns-in_err-value c =
+    c.from_residual.ensures
+    ∙ sym (after_none c.args.digits.now c.loop-c.c-index c.loop-c.value (omega arith) c.in_err-value.ensures.value)
     ∙ c.loop-c.invariant.1
 
 pub loop-c-preserved : goal.loop-c-preserved

@@ -7,5 +7,5 @@ pub loop-rest-preserved : goal.loop-rest-preserved
 loop-rest-preserved c =
     let two : 2 ≤ length c.loop-rest.rest.now = search rules in
     onto_more (vec_items c.loop-rest.read) (vec_items c.push.new.self) c.loop-rest.rest.now c.in-Some.value two
-    (sym c.in-Some.ensures) c.in-ok-push.ensures.items
+    (sym c.in-Some.ensures) c.in_ok-push.ensures.items
     ∙ c.loop-rest.invariant

@@ -11,11 +11,11 @@ loop-word-init g c = refl
 pub loop-word-preserved : goal.loop-word-preserved
 loop-word-preserved g c =
     rounds_more (network g.G.Group g.F.RoundFunction c.args.self.now)
-    c.round-words-word-items.result.now c.loop-word.word-index c.loop-word.state c.round-state.result _
+    c.round_words-word-items.result.now c.loop-word.word-index c.loop-word.state c.round-state.result _
     c.loop-word-test.true c.round-state.ensures c.loop-word.invariant
 
 pub returns : goal.returns
 returns g c =
     let N = network g.G.Group g.F.RoundFunction c.args.self.now in
-    rounds_all N c.round-words-word-items.result.now c.loop-word.word-index c.loop-word.state _ c.loop-word-test.false c.loop-word.invariant
-    ∙ ap (λ l. rounds N l c.args.halves) c.round-words-word-items.ensures
+    rounds_all N c.round_words-word-items.result.now c.loop-word.word-index c.loop-word.state _ c.loop-word-test.false c.loop-word.invariant
+    ∙ ap (λ l. rounds N l c.args.halves) c.round_words-word-items.ensures

@@ -14,5 +14,5 @@ returns g c =
     record {
       network = c.reverse.ensures;
       again = ap turned c.reverse.ensures ∙ turned-turned N;
-      inverse = subst (λ M. Inverses (Words g.Word.Word.fits) (ran N) (ran M)) (sym c.reverse.ensures) (inverses N laws values);
+      inverse = rw c.reverse.ensures (inverses N laws values);
     }

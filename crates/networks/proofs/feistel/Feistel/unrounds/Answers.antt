@@ -17,5 +17,5 @@ loop-last-preserved g c =
 pub returns : goal.returns
 returns g c =
     let N = network g.G.Group g.F.RoundFunction c.args.self.now in
-    unrounds_all N _ _ _ c.in-default.ensures c.loop-last.invariant
-    ∙ ap (λ l. unrounds N l c.args.halves) c.round-words-words.ensures
+    unrounds_all N _ _ _ c.in_default.ensures c.loop-last.invariant
+    ∙ ap (λ l. unrounds N l c.args.halves) c.round_words-words.ensures

@@ -9,6 +9,6 @@ returns c =
     let n = c.args.self.now.count in
     let words = c.args.self.now.words in
     let few = c.args.self.now.few in
-    let reversed : c.last-first.new.words ≡ reverse (take n words) = simp sub-zero at c.last-first.ensures in
-    let len : length c.last-first.new.words ≡ n = ap length reversed ∙ length-reverse (take n words) ∙ length-take n words ∙ omega arith in
+    let reversed : c.last_first.new.words ≡ reverse (take n words) = simp sub-zero at c.last_first.ensures in
+    let len : length c.last_first.new.words ≡ n = ap length reversed ∙ length-reverse (take n words) ∙ length-take n words ∙ omega arith in
     take_at _ _ n len ∙ reversed
