@@ -8,7 +8,7 @@ use Rattle.chaining.proofs.runs.store.Goals as goal
 
 pub returns : goal.returns
 returns c =
-    let now : put_mid (8 * c.args.i) (8 * c.args.i + 8 - 8 * c.args.i) c.args.run.now c.copy-from-slice.new.self ≡ put_mid (8 * c.args.i) 8 c.args.run.now (octets c.args.value) = search rules in
+    let now : put_mid (8 * c.args.i) (8 * c.args.i + 8 - 8 * c.args.i) c.args.run.now c.copy_from_slice.new.self ≡ put_mid (8 * c.args.i) 8 c.args.run.now (octets c.args.value) = search rules in
     record {
       len = search (rules, overwrites);
       bytes = search rules;

@@ -7,7 +7,7 @@ pub loop-call-init : goal.loop-call-init
 loop-call-init g c = (served_none _, refl)
 
 pub loop-call-preserved : goal.loop-call-preserved
-loop-call-preserved g c = serving_more _ _ _ _ _ _ _ _ c.loop-call-test.true c.loop-call.auto.calls c.loop-call.invariant.0 c.loop-call.invariant.1 c.serve-call.ensures
+loop-call-preserved g c = serving_more _ _ _ _ _ _ _ _ c.loop-call-test.true c.loop-call.auto.calls c.loop-call.invariant.0 c.loop-call.invariant.1 c.serve_call.ensures
 
 pub returns : goal.returns
 returns g c = serving_all _ _ _ _ c.loop-call.call-index c.loop-call-test.false c.loop-call.auto.calls c.loop-call.invariant.0

@@ -11,5 +11,5 @@ loop-j-init c = (refl, refl)
 pub loop-j-preserved : goal.loop-j-preserved
 loop-j-preserved c = (
   simp length-set c.loop-j.invariant.0,
-  cycle_more c.args.key.now c.loop-j.words c.loop-j.j _ _ (omega arith) c.first-word.ensures c.second-word.ensures c.loop-j.invariant.1,
+  cycle_more c.args.key.now c.loop-j.words c.loop-j.j _ _ (omega arith) c.first_word.ensures c.second_word.ensures c.loop-j.invariant.1,
 )

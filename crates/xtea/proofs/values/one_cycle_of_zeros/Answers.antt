@@ -8,4 +8,4 @@ unfolding cycled
 known = refl
 
 pub returns : goal.returns
-returns c = record { sealed = c.one-cycle.ensures; value = c.one-cycle.ensures ∙ known }
+returns c = record { sealed = c.one_cycle.ensures; value = c.one_cycle.ensures ∙ known }
