@@ -4,7 +4,7 @@ use Rattle.known_answers.specs.declared.tally.Tally.{Tally}
 use Rattle.known_answers.specs.declared.tally.Verdict.{Verdict}
 use Rattle.known_answers.specs.Cut.{lines_of}
 use Rattle.known_answers.specs.Lines.{left_of}
-use Rattle.known_answers.specs.Tally.{none, counted}
+use Rattle.known_answers.specs.Tally.{counted}
 use Rattle.trials.specs.declared.running.Run.{Run}
 use Rattle.trials.specs.Verdicts.{verdict_of}
 

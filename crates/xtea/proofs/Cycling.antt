@@ -1,5 +1,5 @@
 -- Two rounds of the network are a cycle, and the swaps behind the rounds take each other back. Assumes nothing.
-use Rattle.std.proofs.Common.{◌≡◌, ℕ, zero, suc, ◌+◌, ◌^◌, ◌<◌, Bool, false, List, [], ◌∷◌, ◌++◌, sym, ap, ◌∙◌, append_assoc, arith}
+use Rattle.std.proofs.Common.{◌≡◌, ℕ, zero, suc, ◌^◌, ◌<◌, Bool, false, List, [], ◌∷◌, ◌++◌, sym, ap, ◌∙◌, append_assoc, arith}
 use Rattle.networks.specs.declared.pairs.Halves.{Halves}
 use Rattle.networks.specs.Rounds.{Network, Words, swapped, round, rounds}
 use Rattle.networks.proofs.Steps.{rounds_none, rounds_push}

@@ -1,8 +1,7 @@
 -- `Feistel::turn` meets its contract. Assumes nothing.
-use Rattle.std.proofs.Common.{sym, ap, ◌∙◌, subst}
-use Rattle.networks.specs.Inverses.{Inverses}
+use Rattle.std.proofs.Common.{ap, ◌∙◌}
 use Rattle.networks.specs.Networks.{network}
-use Rattle.networks.specs.Rounds.{Words, ran, turned}
+use Rattle.networks.specs.Rounds.{turned}
 use Rattle.networks.proofs.WaysBack.{inverses, turned-turned}
 use Rattle.networks.proofs.feistel.Feistel.turn.Goals as goal
 
