@@ -1,14 +1,16 @@
 #!/usr/bin/env bash
 # Shows that a cipher which a bench holds cannot be called on, nor a bench that was taken apart: the compiler refuses such
-# code before the prover sees it, so no must-fail edit can. Each case adds one function to a copy of the repository, with
-# what is already proved, and compiles its crate. A refused case must fail with the one error of a moved value and no
-# other; the accepted ones beside it are the same calls while the value is not moved.
+# code before the prover sees it, so no must-fail edit can. Each case adds one function to a copy of the repository and
+# compiles its crate (`rt check --only ""` compiles, and proves no function). A refused case must fail with the one error
+# of a moved value and no other; the accepted ones beside it are the same calls while the value is not moved.
 set -euo pipefail
 cd "$(dirname "$0")/.."
 
 copy=$(mktemp -d)
 trap 'rm -rf "$copy"' EXIT
-cp -R crates crates.txt target "$copy"
+tar -c --exclude=out crates | tar -x -C "$copy"
+# the cases call a cipher's methods beside a bench, so they see the crate of the interface too
+sed 's/^transcripts:/transcripts: ciphers/' crates.txt > "$copy/crates.txt"
 
 # Whether the log has exactly one error, that of the moved value in the file.
 only_moved() {
@@ -18,11 +20,11 @@ only_moved() {
 # try LABEL WANTED CRATE FILE FUNCTION: compiles CRATE with FUNCTION added to its FILE.
 # WANTED is `accepted`, or the name of the value whose move must be the one error.
 try() {
-    local label=$1 wanted=$2 crate=$3 file=crates/$3/src/$4 log=$copy/$1.log got=accepted
-    cp "$file" "$copy/$file"
-    printf '\n%s\n' "$5" >> "$copy/$file"
-    (cd "$copy" && rt mir "$crate") > "$log" 2>&1 || got=refused
-    cp "$file" "$copy/$file"
+    local label=$1 wanted=$2 crate=$3 file=src/$4 log=$copy/$1.log got=accepted
+    cp "crates/$crate/$file" "$copy/crates/$crate/$file"
+    printf '\n%s\n' "$5" >> "$copy/crates/$crate/$file"
+    (cd "$copy/crates/$crate" && rt check --only "") > "$log" 2>&1 || got=refused
+    cp "crates/$crate/$file" "$copy/crates/$crate/$file"
     if [ "$wanted" != accepted ] && [ "$got" = refused ] && only_moved "$log" "$file" "$wanted"; then
         got=$wanted
     fi
@@ -45,7 +47,7 @@ any seal-held cipher 'let _bench = Bench::new(cipher); cipher.seal(block)'
 any seal-taken-apart accepted 'let bench = Bench::new(cipher); let cipher = bench.into_cipher(); cipher.seal(block)'
 
 # XTEA.
-xtea() { try "$1" "$2" transcripts return_trip.rt "pub fn tried(key: &[u8; 16], block: u64) -> u64 { let mut cipher = full_xtea(key); $3 }"; }
+xtea() { try "$1" "$2" transcripts return_trip.rt "use ciphers::Cipher; pub fn tried(key: &[u8; 16], block: u64) -> u64 { let mut cipher = full_xtea(key); $3 }"; }
 xtea turn-before accepted 'cipher.turn(); let bench = Bench::new(cipher); bench.into_cipher().seal(block)'
 xtea turn-held cipher 'let bench = Bench::new(cipher); cipher.turn(); bench.into_cipher().seal(block)'
 xtea bench-before accepted 'cipher.turn(); let mut bench = Bench::new(cipher); bench.turn(); bench.into_cipher().seal(block)'
