@@ -1,8 +1,8 @@
 #!/usr/bin/env bash
 # Shows that a cipher which a bench holds cannot be called on, nor a bench that was taken apart: the compiler refuses such
 # code before the prover sees it, so no must-fail edit can. Each case adds one function to a copy of the repository and
-# compiles its crate (`rt check --only ""` compiles, and proves no function). A refused case must fail with the one error
-# of a moved value and no other; the accepted ones beside it are the same calls while the value is not moved.
+# compiles its crate (`rt check --only ""` proves nothing of it). A refused case must fail with the one error of a moved
+# value and no other; the accepted ones beside it are the same calls while the value is not moved.
 set -euo pipefail
 cd "$(dirname "$0")/.."
 

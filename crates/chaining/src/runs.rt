@@ -30,7 +30,7 @@ fn store(run: &mut [u8], i: usize, value: u64)
     ensures len { length run.new ≡ length run.old }
     ensures bytes { Bytes run.new }
     ensures written { block run.new i ≡ value }
-    ensures others { (j : ℕ) → (j ≢ i) → block run.new j ≡ block run.old j }
+    ensures others { (j : ℕ) → j ≢ i → block run.new j ≡ block run.old j }
 {
     let at = 8 * i;
     run[at..at + 8].copy_from_slice(&value.to_be_bytes());
@@ -48,7 +48,7 @@ fn rewrite_block<C: Cipher>(
     ensures len { length run.new ≡ length run.old }
     ensures bytes { Bytes run.new }
     ensures written { block run.new i ≡ chained direction (C.Cipher.map cipher.now) chain (block run.old i) }
-    ensures others { (j : ℕ) → (j ≢ i) → block run.new j ≡ block run.old j }
+    ensures others { (j : ℕ) → j ≢ i → block run.new j ≡ block run.old j }
     ensures chain { result ≡ sealed_of direction (block run.old i) (block run.new i) }
 {
     let link = step(cipher, direction, chain, load(run, i));

@@ -18,7 +18,7 @@ module _ {W : Type 0} (N : Network W) where
   abbrev pub applied : W → ℕ → W
   applied half word = cond N.inverting (N.inverted (N.function half word)) (N.function half word)
 
-  -- (L, R) becomes (R, L-as-F(R, k))
+  -- (L, R) becomes (R, L·F(R, k))
   abbrev pub round : ℕ → Halves W → Halves W
   round k h = record { left = h.right; right = N.joined h.left (applied h.right k) }
 
@@ -26,7 +26,7 @@ module _ {W : Type 0} (N : Network W) where
   rounds [] h = h
   rounds (k ∷ ks) h = rounds ks (round k h)
 
-  -- (A, B) becomes (B-as-F(A, k)⁻¹, A)
+  -- (A, B) becomes (B·F(A, k)⁻¹, A)
   abbrev pub unround : ℕ → Halves W → Halves W
   unround k h = record { left = N.joined h.right (N.inverted (applied h.left k)); right = h.left }
 
