@@ -6,7 +6,6 @@ ghost use Rattle.ciphers.specs.Blocks.{feistel};
 ghost use Rattle.ciphers.specs.Maps.{Inverse};
 
 use crate::interface::Cipher;
-use crate::splits::{join, split};
 use crate::undoing::Undo;
 use groups::Group;
 use networks::{Feistel, RoundFunction};
@@ -15,7 +14,7 @@ impl<G: Group<Word = u32>, F: RoundFunction<Half = u32>> Cipher for Feistel<G, F
     ghost map = { λ n. feistel (network G.Group F.RoundFunction n) };
 
     fn seal(&self, block: u64) -> u64 {
-        join(self.run(split(block)))
+        self.run(block.into()).into()
     }
 
     fn turn(&mut self)
@@ -28,6 +27,6 @@ impl<G: Group<Word = u32>, F: RoundFunction<Half = u32>> Cipher for Feistel<G, F
 
 impl<G: Group<Word = u32>, F: RoundFunction<Half = u32>> Undo for Feistel<G, F> {
     fn undo(&self, block: u64) -> u64 {
-        join(self.undo(split(block)))
+        self.undo(block.into()).into()
     }
 }

@@ -9,11 +9,11 @@
 mod feistels;
 mod interface;
 mod sequence;
-mod splits;
 mod swap;
 mod undoing;
 
 pub use interface::Cipher;
+pub use networks::WaysBack;
 pub use sequence::Pair;
 pub use swap::SwapHalves;
-pub use undoing::{Undo, WaysBack, ways_back};
+pub use undoing::{Undo, ways_back};

@@ -5,7 +5,8 @@ ghost use Rattle.ciphers.specs.Maps.{composed};
 use crate::interface::Cipher;
 use crate::undoing::Undo;
 
-// The first cipher and then the second, or the other way round once the pair is turned.
+// The first cipher and then the second, or the other way round once the pair is turned. A turn is in place, so the order
+// is a value and no type.
 #[derive(Drop)]
 pub struct Pair<A, B> {
     first: A,

@@ -2,8 +2,8 @@
 ghost use Rattle.ciphers.specs.Blocks.{halves_swapped};
 
 use crate::interface::Cipher;
-use crate::splits::{join, split};
 use crate::undoing::Undo;
+use networks::Halves;
 
 #[derive(Drop)]
 pub struct SwapHalves;
@@ -12,7 +12,7 @@ impl Cipher for SwapHalves {
     ghost map = { λ _. halves_swapped };
 
     fn seal(&self, block: u64) -> u64 {
-        join(split(block).swap())
+        Halves::from(block).swap().into()
     }
 
     fn turn(&mut self) {}

@@ -10,15 +10,11 @@ pub trait Group {
     const NEUTRAL: Self::Word;
 
     // the meaning of the constant, of `join` and of `inverse`
-    ghost neutral: { Self.Word };
+    ghost NEUTRAL: { Self.Word };
 
     ghost joined: { Self.Word → Self.Word → Self.Word };
 
     ghost inverted: { Self.Word → Self.Word };
-
-    // The constant, as a value that contracts can speak of.
-    fn unit() -> Self::Word
-        ensures { result ≡ neutral };
 
     fn join(left: Self::Word, right: Self::Word) -> Self::Word
         ensures { result ≡ joined left right };
@@ -27,5 +23,5 @@ pub trait Group {
         ensures { result ≡ inverted word };
 
     // what each implementation shows
-    ghost lawful: { Lawful Self.Word.Word.fits neutral joined inverted };
+    ghost lawful: { Lawful Self.Word.Word.fits NEUTRAL joined inverted };
 }

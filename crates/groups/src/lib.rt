@@ -6,13 +6,11 @@
 #![tactic(auto)]
 
 mod lawful;
-mod sums16;
-mod sums32;
+mod sums;
 mod words;
 mod xor;
 
 pub use lawful::Group;
-pub use sums16::Sum16;
-pub use sums32::Sum32;
-pub use words::Word;
+pub use sums::{Sum, Sum16, Sum32};
+pub use words::{Summed, Word};
 pub use xor::Xor32;

@@ -14,7 +14,7 @@ impl Group for Xor32 {
 
     const NEUTRAL: u32 = 0;
 
-    ghost neutral = { 0 };
+    ghost NEUTRAL = { 0 };
 
     ghost joined = { bit_xor };
 
@@ -30,10 +30,6 @@ impl Group for Xor32 {
       inverse_left = λ x p. xor_self x;
       inverse_right = λ x p. xor_self x;
     } };
-
-    fn unit() -> u32 {
-        Self::NEUTRAL
-    }
 
     fn join(left: u32, right: u32) -> u32 {
         left ^ right

@@ -1,2 +1,2 @@
-pub mod Steps
-pub mod WaysBack
+pub mod Splits
+pub mod TwoWays

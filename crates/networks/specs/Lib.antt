@@ -1,4 +1,4 @@
+pub mod Halves
 pub mod Inverses
 pub mod Networks
 pub mod Rounds
-pub mod Schedules

@@ -1,6 +1,8 @@
 -- Feistel networks and both of their ways back. Assumes nothing.
-use Rattle.std.specs.Prelude.{ℕ, Bool, cond, not, List, [], ◌∷◌, reverse}
+use Rattle.std.specs.Prelude.{ℕ, Bool, not, List, reverse, if◌then◌else◌}
+use Rattle.std.specs.List.{fold}
 use Rattle.networks.specs.declared.pairs.Halves.{Halves}
+use Rattle.networks.specs.Halves.{swapped}
 
 -- a network over the words W: its group's join and inverse, its round function, whether it is turned, its round words
 pub record Network (W : Type 0) : Type 0 where
@@ -10,30 +12,26 @@ pub record Network (W : Type 0) : Type 0 where
   pub inverting : Bool
   pub words : List ℕ
 
-abbrev pub swapped : {W : Type 0} → Halves W → Halves W
-swapped h = record { left = h.right; right = h.left }
-
 module _ {W : Type 0} (N : Network W) where
   -- F of a half and a round word, or its inverse where the network is turned
   abbrev pub applied : W → ℕ → W
-  applied half word = cond N.inverting (N.inverted (N.function half word)) (N.function half word)
+  applied half word = if N.inverting then N.inverted (N.function half word) else N.function half word
 
   -- (L, R) becomes (R, L·F(R, k))
   abbrev pub round : ℕ → Halves W → Halves W
   round k h = record { left = h.right; right = N.joined h.left (applied h.right k) }
 
-  unfoldable pub rounds : List ℕ → Halves W → Halves W
-  rounds [] h = h
-  rounds (k ∷ ks) h = rounds ks (round k h)
+  -- the rounds in order
+  abbrev pub rounds : List ℕ → Halves W → Halves W
+  rounds ks h = fold (λ s k. round k s) h ks
 
   -- (A, B) becomes (B·F(A, k)⁻¹, A)
   abbrev pub unround : ℕ → Halves W → Halves W
   unround k h = record { left = N.joined h.right (N.inverted (applied h.left k)); right = h.left }
 
-  -- the last round is taken back first
-  unfoldable pub unrounds : List ℕ → Halves W → Halves W
-  unrounds [] h = h
-  unrounds (k ∷ ks) h = unround k (unrounds ks h)
+  -- the rounds taken back, the last one first
+  abbrev pub unrounds : List ℕ → Halves W → Halves W
+  unrounds ks h = fold (λ s k. unround k s) h (reverse ks)
 
   -- the rounds, and then the halves are swapped
   abbrev pub ran : Halves W → Halves W
@@ -46,7 +44,3 @@ module _ {W : Type 0} (N : Network W) where
   -- the round words reversed, and the function's values inverted, or no longer inverted
   abbrev pub turned : Network W
   turned = record { joined = N.joined; inverted = N.inverted; function = N.function; inverting = not N.inverting; words = reverse N.words }
-
--- both halves are words
-abbrev pub Words : {W : Type 0} → (W → Type 0) → Halves W → Type 0
-Words fits h = fits h.left × fits h.right

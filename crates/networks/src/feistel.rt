@@ -1,18 +1,20 @@
 // Feistel networks over any group and round function.
-ghost use Rattle.std.specs.Prelude.{◌≡◌, false, [], ◌∷◌, ◌++◌, length, MatchOption};
+ghost use Rattle.std.specs.Prelude.{◌≡◌, false};
+ghost use Rattle.networks.specs.Halves.{Words};
 ghost use Rattle.networks.specs.Inverses.{Inverses};
 ghost use Rattle.networks.specs.Networks.{network};
-ghost use Rattle.networks.specs.Rounds.{applied, round, rounds, unround, unrounds, ran, unran, turned, Words};
-ghost use Rattle.networks.specs.Schedules.{round_words};
+ghost use Rattle.networks.specs.Rounds.{applied, round, rounds, unround, unrounds, ran, unran, turned};
 
 use crate::functions::RoundFunction;
 use crate::pairs::Halves;
 use crate::schedules::Schedule;
+use crate::ways::WaysBack;
 use groups::Group;
 use std::marker::PhantomData;
 
 // A Feistel network with a final swap: a round function, its round words (round keys), and whether its values are
-// inverted in the group, as they are once the network is turned.
+// inverted in the group, as they are once the network is turned. A turn is in place, so `inverted` is a value and no type.
+// It has no model: a model's value can hold no function, and a network's does.
 #[derive(Drop)]
 pub struct Feistel<G: Group, F: RoundFunction<Half = G::Word>> {
     function: F,
@@ -24,7 +26,7 @@ pub struct Feistel<G: Group, F: RoundFunction<Half = G::Word>> {
 impl<G: Group, F: RoundFunction<Half = G::Word>> Feistel<G, F> {
     pub fn new(function: F, schedule: Schedule) -> Self
         ensures function { result.function ≡ function }
-        ensures words { round_words result.schedule ≡ round_words schedule }
+        ensures words { result.schedule ≡ schedule }
         ensures plain { result.inverted ≡ false }
     {
         Feistel {
@@ -67,16 +69,16 @@ impl<G: Group, F: RoundFunction<Half = G::Word>> Feistel<G, F> {
 
     // The rounds in order.
     fn rounds(&self, halves: Halves<G::Word>) -> Halves<G::Word>
-        ensures { result ≡ rounds (network G.Group F.RoundFunction self.now) (round_words self.now.schedule) halves }
+        ensures { result ≡ rounds (network G.Group F.RoundFunction self.now) self.now.schedule halves }
     {
-        let mut state = halves;
-        for word in self.schedule.round_words() {
-            state = self.round(*word, state);
-        }
-        state
+        self.schedule
+            .round_words()
+            .iter()
+            .fold(halves, |state, word| self.round(*word, state))
     }
 
-    // The rounds in order, and then the swap.
+    // The rounds in order, and then the swap. A part of its own, as are `undone` and `reverse`, so that a wrong order is
+    // refused where it is chosen, and not where a proof cites it.
     fn ran(&self, halves: Halves<G::Word>) -> Halves<G::Word>
         ensures { result ≡ ran (network G.Group F.RoundFunction self.now) halves }
     {
@@ -93,15 +95,13 @@ impl<G: Group, F: RoundFunction<Half = G::Word>> Feistel<G, F> {
 
     // The rounds taken back, the last one first.
     fn unrounds(&self, halves: Halves<G::Word>) -> Halves<G::Word>
-        ensures { result ≡ unrounds (network G.Group F.RoundFunction self.now) (round_words self.now.schedule) halves }
+        ensures { result ≡ unrounds (network G.Group F.RoundFunction self.now) self.now.schedule halves }
     {
-        let mut state = halves;
-        let mut words = self.schedule.round_words();
-        while let Some((last, earlier)) = last_round(words) {
-            state = self.unround(*last, state);
-            words = earlier;
-        }
-        state
+        self.schedule
+            .round_words()
+            .iter()
+            .rev()
+            .fold(halves, |state, word| self.unround(*word, state))
     }
 
     // The swap taken back, and then the rounds.
@@ -138,24 +138,17 @@ impl<G: Group, F: RoundFunction<Half = G::Word>> Feistel<G, F> {
     }
 
     // Both ways back of any halves, the rounds undone and the turned network run: they agree.
-    // The network is as it was afterwards.
-    pub fn ways_back(&mut self, halves: Halves<G::Word>) -> (Halves<G::Word>, Halves<G::Word>)
-        ensures undone { result.0 ≡ unran (network G.Group F.RoundFunction self.old) halves }
-        ensures turned { result.1 ≡ ran (turned (network G.Group F.RoundFunction self.old)) halves }
-        ensures agree { result.0 ≡ result.1 }
+    // The network is as it was afterwards, which is more than a cipher promises of its map.
+    pub fn ways_back(&mut self, halves: Halves<G::Word>) -> WaysBack<Halves<G::Word>>
+        ensures undone { result.undone ≡ unran (network G.Group F.RoundFunction self.old) halves }
+        ensures turned { result.turned ≡ ran (turned (network G.Group F.RoundFunction self.old)) halves }
+        ensures agree { result.undone ≡ result.turned }
         ensures same { network G.Group F.RoundFunction self.new ≡ network G.Group F.RoundFunction self.old }
     {
         let undone = self.undo(halves);
         self.turn();
-        let opened = self.run(halves);
+        let turned = self.run(halves);
         self.turn();
-        (undone, opened)
+        WaysBack { undone, turned }
     }
-}
-
-// The last of the round words, which is taken back first, and those before it.
-fn last_round(words: &[u64]) -> Option<(&u64, &[u64])>
-    ensures { MatchOption result (length words.now ≡ 0) (λ p. words.now ≡ p.1.now ++ p.0.now ∷ []) }
-{
-    words.split_last()
 }

@@ -12,8 +12,10 @@ mod pairs;
 mod schedules;
 #[cfg(test)]
 mod tests;
+mod ways;
 
 pub use feistel::Feistel;
 pub use functions::RoundFunction;
 pub use pairs::Halves;
 pub use schedules::Schedule;
+pub use ways::WaysBack;

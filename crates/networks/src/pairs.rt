@@ -1,8 +1,8 @@
 // The two halves that a Feistel network works on.
 ghost use Rattle.std.specs.Prelude.{◌≡◌};
-ghost use Rattle.networks.specs.Rounds.{swapped};
+ghost use Rattle.networks.specs.Halves.{swapped, halves_of, block_of};
 
-#[derive(Clone, Copy)]
+#[derive(Clone, Copy, Debug, PartialEq, Eq)]
 pub struct Halves<W> {
     pub left: W,
     pub right: W,
@@ -17,5 +17,25 @@ impl<W> Halves<W> {
             left: right,
             right: left,
         }
+    }
+}
+
+// A block as two halves, the left one high.
+impl From<u64> for Halves<u32> {
+    ghost from_gives = { λ block halves. halves ≡ halves_of block };
+
+    fn from(block: u64) -> Halves<u32> {
+        Halves {
+            left: (block >> 32) as u32,
+            right: (block % 0x1_0000_0000) as u32,
+        }
+    }
+}
+
+impl From<Halves<u32>> for u64 {
+    ghost from_gives = { λ halves block. block ≡ block_of halves };
+
+    fn from(halves: Halves<u32>) -> u64 {
+        u64::from(halves.left) * 0x1_0000_0000 + u64::from(halves.right)
     }
 }

@@ -33,8 +33,7 @@ fn network(rounds: usize) -> Feistel<Sum16, Added> {
 #[test]
 fn no_rounds_swap(rt: HostRuntime) {
     let swapped = network(0).run(Halves { left: 1, right: 2 });
-    assert_eq!(rt; swapped.left, 2);
-    assert_eq!(rt; swapped.right, 1);
+    assert_eq!(rt; swapped, Halves { left: 2, right: 1 });
 }
 
 // (3, 5) becomes (5, 3 + 6), then (9, 5 + 8), and the swap makes it (13, 9).
@@ -42,11 +41,9 @@ fn no_rounds_swap(rt: HostRuntime) {
 fn two_rounds_and_both_ways_back(rt: HostRuntime) {
     let mut two = network(2);
     let made = two.run(Halves { left: 3, right: 5 });
-    assert_eq!(rt; made.left, 13);
-    assert_eq!(rt; made.right, 9);
-    let (undone, opened) = two.ways_back(made);
-    assert_eq!(rt; undone.left, 3);
-    assert_eq!(rt; undone.right, 5);
-    assert_eq!(rt; opened.left, 3);
-    assert_eq!(rt; opened.right, 5);
+    assert_eq!(rt; made, Halves { left: 13, right: 9 });
+    let back = two.ways_back(made);
+    let brought = Halves { left: 3, right: 5 };
+    assert_eq!(rt; back.undone, brought);
+    assert_eq!(rt; back.turned, brought);
 }

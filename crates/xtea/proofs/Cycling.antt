@@ -1,11 +1,12 @@
 -- Two rounds of the network are a cycle, and the swaps behind the rounds take each other back. Assumes nothing.
-use Rattle.std.proofs.Common.{◌≡◌, ℕ, zero, suc, ◌^◌, ◌<◌, Bool, false, List, [], ◌∷◌, ◌++◌, sym, ap, ◌∙◌, append_assoc, arith}
+use Rattle.std.proofs.Common.{◌≡◌, ℕ, zero, suc, ◌^◌, ◌<◌, Bool, false, List, [], ◌∷◌, ap, ◌∙◌, arith, refl}
+use Rattle.std.proofs.lemmas.List.Sums.{fold-append}
 use Rattle.networks.specs.declared.pairs.Halves.{Halves}
-use Rattle.networks.specs.Rounds.{Network, Words, swapped, round, rounds}
-use Rattle.networks.proofs.Steps.{rounds_none, rounds_push}
-use Rattle.ciphers.specs.Blocks.{halves_of, block_of, feistel, halves_swapped}
-use Rattle.ciphers.specs.Maps.{composed}
-use Rattle.ciphers.proofs.Halves.{halves_block}
+use Rattle.networks.specs.Halves.{Words, swapped, halves_of, block_of}
+use Rattle.networks.specs.Rounds.{Network, round, rounds}
+use Rattle.networks.proofs.Splits.{halves_block}
+use Rattle.ciphers.specs.Blocks.{feistel, halves_swapped}
+use Rattle.ciphers.specs.Maps.{SameMap, composed}
 use Rattle.xtea.specs.Sealing.{network_of}
 use Rattle.xtea.specs.Xtea.{first_word, second_word, cycle, cycled, words_of, xtea}
 
@@ -15,14 +16,9 @@ plain ws = network_of false ws
 
 rounds_cycled : (key ws : List ℕ) (c : ℕ) (h : Halves ℕ) → rounds (plain ws) (words_of key c) h ≡ cycled key c h
 unfolding words_of cycled
-rounds_cycled key ws zero h = rounds_none (plain ws) h
+rounds_cycled key ws zero h = refl
 rounds_cycled key ws (suc j) h =
-    let N = plain ws in
-    let x = first_word key j in
-    let y = second_word key j in
-    ap (λ l. rounds N l h) (sym (append_assoc (words_of key j) (x ∷ []) (y ∷ [])))
-    ∙ rounds_push N (words_of key j ++ x ∷ []) y h
-    ∙ ap (round N y) (rounds_push N (words_of key j) x h)
+    fold-append (λ s k. round (plain ws) k s) h (words_of key j) (first_word key j ∷ second_word key j ∷ [])
     ∙ ap (cycle key j) (rounds_cycled key ws j h)
 
 swapped_back : (h : Halves ℕ) → Words (λ x. x < 2 ^ 32) h → halves_swapped (block_of (swapped h)) ≡ block_of h
@@ -42,5 +38,5 @@ sealed key c b block =
 
 -- a new cipher: neither its order nor its network is turned
 pub sealed_new : (reversed turned : Bool) (key ws : List ℕ) (c : ℕ) → reversed ≡ false → turned ≡ false → ws ≡ words_of key c
-    → (b : ℕ) → b < 2 ^ 64 → composed reversed (feistel (network_of turned ws)) halves_swapped b ≡ xtea key c b
+    → SameMap (composed reversed (feistel (network_of turned ws)) halves_swapped) (xtea key c)
 sealed_new reversed turned key ws c p q e b block = (λ i. composed (p i) (feistel (network_of (q i) (e i))) halves_swapped b) ∙ sealed key c b block

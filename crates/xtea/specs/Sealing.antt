@@ -2,7 +2,6 @@
 use Rattle.std.specs.Prelude.{ℕ, ◌^◌, Bool, List}
 use Rattle.groups.specs.Sums.{sum, negative}
 use Rattle.networks.specs.Rounds.{Network}
-use Rattle.networks.specs.Schedules.{round_words}
 use Rattle.ciphers.specs.Blocks.{feistel, halves_swapped}
 use Rattle.ciphers.specs.Maps.{composed}
 use Rattle.xtea.specs.declared.cipher.Xtea.{Xtea}
@@ -14,7 +13,7 @@ network_of turned words = record { joined = sum (2 ^ 32); inverted = negative (2
 
 -- the network in a value
 abbrev pub rounding : Xtea → Network ℕ
-rounding x = network_of x.layers.first.inverted (round_words x.layers.first.schedule)
+rounding x = network_of x.layers.first.inverted x.layers.first.schedule
 
 -- the network and then the swap of halves, or the other way round once it is turned
 abbrev pub sealing : Xtea → ℕ → ℕ

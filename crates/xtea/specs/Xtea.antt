@@ -1,7 +1,7 @@
 -- XTEA, as its authors' note of 1997 has it. Assumes nothing.
 use Rattle.std.specs.Prelude.{ℕ, zero, suc, ◌+◌, ◌*◌, ◌/◌, ◌%◌, ◌^◌, List, [], ◌∷◌, ◌++◌, bit_xor, slice_index}
 use Rattle.networks.specs.declared.pairs.Halves.{Halves}
-use Rattle.ciphers.specs.Blocks.{halves_of, block_of}
+use Rattle.networks.specs.Halves.{halves_of, block_of}
 
 -- ((z << 4 ^ z >> 5) + z) ^ k, of a half and a round word
 abbrev pub mixed : ℕ → ℕ → ℕ

@@ -1,6 +1,6 @@
 // XTEA as a cipher: a Feistel network of two rounds for each cycle, and then the halves swapped.
-ghost use Rattle.std.specs.Prelude.{◌≡◌, ℕ, ◌^◌, ◌<◌, false};
-ghost use Rattle.networks.specs.Schedules.{round_words};
+ghost use Rattle.std.specs.Prelude.{◌≡◌};
+ghost use Rattle.ciphers.specs.Maps.{SameMap};
 ghost use Rattle.xtea.specs.Sealing.{sealing};
 ghost use Rattle.xtea.specs.Xtea.{words_of, xtea};
 
@@ -16,25 +16,15 @@ pub struct Xtea {
     layers: Pair<Feistel<Sum32, XteaRound>, SwapHalves>,
 }
 
-// The network of the key's round words, and the swap behind it.
-fn layers(key: &[u8; 16], cycles: Cycles) -> Pair<Feistel<Sum32, XteaRound>, SwapHalves>
-    ensures words { round_words result.first.schedule ≡ words_of key.now cycles.count }
-    ensures plain { result.first.inverted ≡ false }
-    ensures order { result.reversed ≡ false }
-{
-    Pair::new(
-        Feistel::new(XteaRound, key_schedule(key, cycles)),
-        SwapHalves,
-    )
-}
-
 impl Xtea {
+    #[tactic(auto, using(crate::proofs::Cycling::sealed_new))]
     pub fn new(key: &[u8; 16], cycles: Cycles) -> Xtea
-        ensures words { round_words result.layers.first.schedule ≡ words_of key.now cycles.count }
-        ensures map { (b : ℕ) → b < 2 ^ 64 → sealing result b ≡ xtea key.now cycles.count b }
+        ensures words { result.layers.first.schedule ≡ words_of key.now cycles }
+        ensures map { SameMap (sealing result) (xtea key.now cycles) }
     {
+        let rounds = Feistel::new(XteaRound, key_schedule(key, cycles));
         Xtea {
-            layers: layers(key, cycles),
+            layers: Pair::new(rounds, SwapHalves),
         }
     }
 }

@@ -1,8 +1,8 @@
 -- What the loop of `key_schedule` keeps. Assumes nothing.
-use Rattle.std.proofs.Common.{◌≡◌, ◌*◌, length, take}
+use Rattle.std.proofs.Common.{◌≡◌, ◌*◌, length}
 use Rattle.xtea.specs.Xtea.{words_of}
 use Rattle.xtea.proofs.expansion.key_schedule.Given as goal
 
--- the words of the cycles so far stand in front
-abbrev pub invariant-loop-j : goal.invariant-loop-j
-invariant-loop-j l = (length l.words ≡ 64) × (take (2 * l.j) l.words ≡ words_of l.key l.j)
+-- the words are those of the cycles so far
+abbrev pub invariant-loop-cycle : goal.invariant-loop-cycle
+invariant-loop-cycle l = (length l.words.items ≡ 2 * l.cycle) × (l.words.items ≡ words_of l.key l.cycle)

@@ -1,12 +1,19 @@
 -- Both ways back of a Feistel network agree, and undo the run. Assumes nothing.
-use Rattle.std.proofs.Common.{◌≡◌, ℕ, true, false, cond, not, List, [], ◌∷◌, reverse, sym, refl, ap, ◌∙◌, ap₂}
-use mathlib.Core.Bool.{not-not}
-use mathlib.Core.List.{reverse-cons, reverse-reverse}
+use Rattle.std.proofs.Common.{◌≡◌, ℕ, true, false, not, List, [], ◌∷◌, reverse, sym, refl, ap, ◌∙◌, ap₂, if◌then◌else◌}
+use Rattle.std.proofs.Math.Bool.{not-not}
+use Rattle.std.proofs.lemmas.Grind.{reverse_onto}
+use Rattle.std.proofs.lemmas.List.{reverse-reverse}
+use Rattle.std.proofs.lemmas.List.Sums.{fold_push}
+use Rattle.std.specs.List.{fold}
 use Rattle.groups.specs.Laws.{Lawful}
 use Rattle.networks.specs.declared.pairs.Halves.{Halves}
 use Rattle.networks.specs.Inverses.{Inverses}
-use Rattle.networks.specs.Rounds.{Network, swapped, applied, round, rounds, unround, unrounds, ran, unran, turned, Words}
-use Rattle.networks.proofs.Steps.{rounds_none, rounds-cons, rounds_push, unrounds_none, unrounds-cons}
+use Rattle.networks.specs.Halves.{swapped, Words}
+use Rattle.networks.specs.Rounds.{Network, applied, round, rounds, unround, unrounds, ran, unran, turned}
+
+-- the round that comes first is taken back last
+unrounds-cons : {W : Type 0} (N : Network W) (k : ℕ) (ks : List ℕ) (h : Halves W) → unrounds N (k ∷ ks) h ≡ unround N k (unrounds N ks h)
+unrounds-cons N k ks h = ap (fold (λ s k. unround N k s) h) (reverse_onto ks k []) ∙ fold_push (λ s k. unround N k s) h (reverse ks) k
 
 -- over a lawful group, and a round function whose values are words
 module _ {W : Type 0} {fits : W → Type 0} {neutral : W} (N : Network W) (laws : Lawful fits neutral N.joined N.inverted) (values : (half : W) (word : ℕ) → fits (N.function half word)) where
@@ -24,28 +31,23 @@ module _ {W : Type 0} {fits : W → Type 0} {neutral : W} (N : Network W) (laws 
   -- the turned network applies the inverse of what the network applies
   opposed : (a : W) (k : ℕ) → N.inverted (applied N a k) ≡ applied (turned N) a k
   opposed a k =
-      elim N.inverting as (λ b. N.inverted (cond b (N.inverted (N.function a k)) (N.function a k)) ≡ cond (not b) (N.inverted (N.function a k)) (N.function a k))
+      elim N.inverting as (λ b. N.inverted (if b then N.inverted (N.function a k) else N.function a k) ≡ (if not b then N.inverted (N.function a k) else N.function a k))
       [ true ↦ double_inverse _ (values a k) | false ↦ refl ]
 
   -- one undone round, and one round of the turned network with the halves swapped
   step : (k : ℕ) (h : Halves W) → unround N k (swapped h) ≡ swapped (round (turned N) k h)
   step k h = ap (λ x. record { left = N.joined h.left x; right = h.right }) (opposed h.right k)
 
-  agree : (ks : List ℕ) (h : Halves W) → unrounds N ks (swapped h) ≡ swapped (rounds (turned N) (reverse ks) h)
-  agree [] h = unrounds_none N (swapped h) ∙ ap swapped (sym (rounds_none (turned N) h))
-  agree (k ∷ ks) h =
-      unrounds-cons N k ks (swapped h)
-      ∙ ap (unround N k) (agree ks h)
-      ∙ step k (rounds (turned N) (reverse ks) h)
-      ∙ ap swapped (sym (rounds_push (turned N) (reverse ks) k h))
-      ∙ ap (λ l. swapped (rounds (turned N) l h)) (sym (reverse-cons k ks))
+  agree : (ks : List ℕ) (h : Halves W) → fold (λ s k. unround N k s) (swapped h) ks ≡ swapped (rounds (turned N) ks h)
+  agree [] h = refl
+  agree (k ∷ ks) h = ap (λ s. fold (λ s k. unround N k s) s ks) (step k h) ∙ agree ks (round (turned N) k h)
 
   pub ways_back : (h : Halves W) → unran N h ≡ ran (turned N) h
-  ways_back h = agree N.words h
+  ways_back h = agree (reverse N.words) h
 
   applied_fits : (a : W) (k : ℕ) → fits (applied N a k)
   applied_fits a k =
-      elim N.inverting as (λ b. fits (cond b (N.inverted (N.function a k)) (N.function a k)))
+      elim N.inverting as (λ b. fits (if b then N.inverted (N.function a k) else N.function a k))
       [ true ↦ laws.inverse_fits _ (values a k) | false ↦ values a k ]
 
   -- a round and its undoing
@@ -58,19 +60,17 @@ module _ {W : Type 0} {fits : W → Type 0} {neutral : W} (N : Network W) (laws 
       ∙ ap (N.joined h.left) (laws.inverse_right x q)
       ∙ laws.neutral_right h.left p)
 
-  unrounds-rounds : (ks : List ℕ) (h : Halves W) → fits h.left → fits h.right → unrounds N ks (rounds N ks h) ≡ h
-  unrounds-rounds [] h p q = unrounds_none N _ ∙ rounds_none N h
-  unrounds-rounds (k ∷ ks) h p q =
+  unrounds-rounds : (ks : List ℕ) (h : Halves W) → Words fits h → unrounds N ks (rounds N ks h) ≡ h
+  unrounds-rounds [] h p = refl
+  unrounds-rounds (k ∷ ks) h p =
       unrounds-cons N k ks _
-      ∙ ap (λ s. unround N k (unrounds N ks s)) (rounds-cons N k ks h)
-      ∙ ap (unround N k) (unrounds-rounds ks (round N k h) q (laws.join_fits _ _ p (applied_fits h.right k)))
-      ∙ unround-round k h p
+      ∙ ap (unround N k) (unrounds-rounds ks (round N k h) (p.1, laws.join_fits _ _ p.0 (applied_fits h.right k)))
+      ∙ unround-round k h p.0
 
   pub there_and_back : (h : Halves W) → Words fits h → ran (turned N) (ran N h) ≡ h
-  there_and_back h p = sym (ways_back (ran N h)) ∙ unrounds-rounds N.words h p.0 p.1
+  there_and_back h p = sym (ways_back (ran N h)) ∙ unrounds-rounds N.words h p
 
   rounds_fits : (ks : List ℕ) (h : Halves W) → Words fits h → Words fits (rounds N ks h)
-  unfolding rounds
   rounds_fits [] h p = p
   rounds_fits (k ∷ ks) h p = rounds_fits ks (round N k h) (p.1, laws.join_fits _ _ p.0 (applied_fits h.right k))
 
@@ -79,15 +79,15 @@ module _ {W : Type 0} {fits : W → Type 0} {neutral : W} (N : Network W) (laws 
   ran_fits h p = let both = rounds_fits N.words h p in (both.1, both.0)
 
 -- a second turn takes the first back
-pub turned-turned : {W : Type 0} (N : Network W) → turned (turned N) ≡ N
-turned-turned N =
+pub turned_twice : {W : Type 0} (N : Network W) → turned (turned N) ≡ N
+turned_twice N =
     ap₂ (λ b ws. record { joined = N.joined; inverted = N.inverted; function = N.function; inverting = b; words = ws })
     (not-not N.inverting) (reverse-reverse N.words)
 
 -- a network and the turned one are inverses: what holds from one side holds from the other, since the second turn takes the first back
 module _ {W : Type 0} {fits : W → Type 0} {neutral : W} (N : Network W) (laws : Lawful fits neutral N.joined N.inverted) (values : (half : W) (word : ℕ) → fits (N.function half word)) where
   pub back_and_forth : (h : Halves W) → Words fits h → ran N (ran (turned N) h) ≡ h
-  back_and_forth h p = sym (ap (λ M. ran M (ran (turned N) h)) (turned-turned N)) ∙ there_and_back (turned N) laws values h p
+  back_and_forth h p = sym (ap (λ M. ran M (ran (turned N) h)) (turned_twice N)) ∙ there_and_back (turned N) laws values h p
 
   pub inverses : Inverses (Words fits) (ran N) (ran (turned N))
   inverses = record {

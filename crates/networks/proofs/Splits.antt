@@ -1,8 +1,7 @@
 -- A block made of two words has them as its halves. Assumes nothing.
 use Rattle.std.proofs.Common.{◌≡◌, ℕ, ◌+◌, ◌*◌, ◌/◌, ◌%◌, ◌^◌, ◌<◌, arith, ap₂}
 use Rattle.networks.specs.declared.pairs.Halves.{Halves}
-use Rattle.networks.specs.Rounds.{Words}
-use Rattle.ciphers.specs.Blocks.{halves_of, block_of}
+use Rattle.networks.specs.Halves.{Words, halves_of, block_of}
 
 pub halves_block : (h : Halves ℕ) → Words (λ x. x < 2 ^ 32) h → halves_of (block_of h) ≡ h
 halves_block h p =
