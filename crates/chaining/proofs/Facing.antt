@@ -1,8 +1,8 @@
 -- Benches that face each other stay so over turns. Assumes nothing.
 use Rattle.std.proofs.Common.{◌≡◌, ℕ, ◌^◌, ◌<◌, IfSome, sym, ap, ◌∙◌, subst}
-use Rattle.ciphers.specs.Maps.{Inverse}
+use Rattle.ciphers.specs.Maps.{Inverse, SameMap}
 use Rattle.chaining.specs.Benches.{State, other, begun, Turned}
-use Rattle.chaining.specs.Mirrors.{SameMap, Facing}
+use Rattle.chaining.specs.Mirrors.{Facing}
 
 -- an inverse of a map is an inverse of the same map
 inverse_same : (f g h : ℕ → ℕ) → SameMap f g → Inverse g h → Inverse f h

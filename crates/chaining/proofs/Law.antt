@@ -1,8 +1,9 @@
 -- The session law. Assumes nothing.
-use Rattle.std.proofs.Common.{◌≡◌, ℕ, suc, List, [], ◌∷◌, map, length, get_or, drop, Some, sym, refl, ap, ◌∙◌, subst, arith}
+use Rattle.std.proofs.Common.{◌≡◌, ℕ, List, [], ◌∷◌, map, get_or, drop, Some, sym, refl, ap, ◌∙◌, ap₂, subst}
 use Rattle.chaining.specs.declared.calls.Call.{Call}
 use Rattle.chaining.specs.Benches.{State, begun, Turned}
-use Rattle.chaining.specs.Mirrors.{SameMap, Facing, CallByCall, BothRan, SessionLaw, Mirrored, GivenBack}
+use Rattle.ciphers.specs.Maps.{SameMap}
+use Rattle.chaining.specs.Mirrors.{Facing, Mirrors, CallByCall, BothRan, SessionLaw, Mirrored, GivenBack}
 use Rattle.chaining.specs.Sessions.{Does, Exchange, Ran, last_of, Served}
 use Rattle.chaining.proofs.Facing.{facing_begun}
 use Rattle.chaining.proofs.Mirroring.{does_mirrored}
@@ -12,15 +13,11 @@ pub record Faced (there : List Exchange) (back : List Exchange) (s : State) (t :
   pub calls : CallByCall there back
   pub after : Facing (last_of s there) (last_of t back)
 
--- a list with something in it is not empty
-some_not_none : {X : Type 0} (x : X) (xs : List X) → x ∷ xs ≡ [] → ⊥
-some_not_none x xs e = let long : suc (length xs) ≡ 0 = ap length e in omega arith
-
 faced : (s t : State) (there back : List Exchange) → Facing s t → Ran s there → Ran t back → map (λ y. y.brought) back ≡ map (λ x. x.left) there → Faced there back s t
 unfolding Ran last_of CallByCall
 faced s t [] [] a r q e = record { calls = tt; after = a }
-faced s t [] (y ∷ ys) a r q e = absurd (some_not_none _ _ e)
-faced s t (x ∷ xs) [] a r q e = absurd (some_not_none _ _ (sym e))
+faced s t [] (y ∷ ys) a r q e = cc
+faced s t (x ∷ xs) [] a r q e = cc
 faced s t (x ∷ xs) (y ∷ ys) a r q e =
     let head : y.brought ≡ x.left = ap (λ l. get_or l 0 y.brought) e in
     let m = does_mirrored s t x.brought x.answer y.answer x.left y.left x.after y.after a r.0 (subst (λ b. Does t b y.answer y.left y.after) head q.0) in
@@ -34,19 +31,12 @@ pub session_law : SessionLaw
 session_law f g there turned back e b = (both_faced f g there turned back e b).calls
 
 -- what holds call by call holds of the lists
-answers_same : (there back : List Exchange) → CallByCall there back → map (λ y. Some y.answer) back ≡ map (λ x. Some x.answer) there
+each_same : {X : Type 0} (f g : Exchange → X) → ((x y : Exchange) → Mirrors x y → f y ≡ g x) → (there back : List Exchange) → CallByCall there back → map f back ≡ map g there
 unfolding CallByCall
-answers_same [] [] c = refl
-answers_same [] (y ∷ ys) c = absurd c
-answers_same (x ∷ xs) [] c = absurd c
-answers_same (x ∷ xs) (y ∷ ys) c = (λ i. Some (c.0.answer i) ∷ answers_same xs ys c.1 i)
-
-given_back_same : (there back : List Exchange) → CallByCall there back → map (λ y. y.left) back ≡ map (λ x. x.brought) there
-unfolding CallByCall
-given_back_same [] [] c = refl
-given_back_same [] (y ∷ ys) c = absurd c
-given_back_same (x ∷ xs) [] c = absurd c
-given_back_same (x ∷ xs) (y ∷ ys) c = (λ i. c.0.given_back i ∷ given_back_same xs ys c.1 i)
+each_same f g e [] [] c = refl
+each_same f g e [] (y ∷ ys) c = absurd c
+each_same f g e (x ∷ xs) [] c = absurd c
+each_same f g e (x ∷ xs) (y ∷ ys) c = ap₂ (λ z zs. z ∷ zs) (e x y c.0) (each_same f g e xs ys c.1)
 
 -- two servings, on a new bench and on a turned one
 pub mirrored : (f g : ℕ → ℕ) (calls between served : List Call) (new turned s t : State) → new ≡ begun f → Served new calls between s → Turned (begun g) turned → Served turned between served t → Mirrored f g calls served s t
@@ -71,7 +61,7 @@ pub all_given_back : (f g : ℕ → ℕ) (calls served : List Call) (s t : State
 all_given_back f g calls served s t m e =
     let b = both_faced f g m.there m.turned m.back e m.ran in
     record {
-      requests = sym m.left ∙ given_back_same m.there m.back b.calls ∙ m.brought;
-      answers = sym m.second_answers ∙ answers_same m.there m.back b.calls ∙ m.first_answers;
+      requests = sym m.left ∙ each_same (λ z. z.left) (λ z. z.brought) (λ x y n. n.given_back) m.there m.back b.calls ∙ m.brought;
+      answers = sym m.second_answers ∙ each_same (λ z. Some z.answer) (λ z. Some z.answer) (λ x y n. ap Some n.answer) m.there m.back b.calls ∙ m.first_answers;
       facing = subst (λ x. Facing x t) m.first_after (subst (λ y. Facing (last_of (begun f) m.there) y) m.second_after b.after);
     }

@@ -5,5 +5,4 @@ pub mod Facing
 pub mod Law
 pub mod Mirroring
 pub mod Passing
-pub mod Places
 pub mod Serving

@@ -1,11 +1,12 @@
 -- Benches that face each other mirror each other's calls. Assumes nothing.
-use Rattle.std.proofs.Common.{◌≡◌, ℕ, ◌%◌, ◌^◌, ◌<◌, Bool, true, false, cond, eqb, ltb, List, length, IfSome, Some, None, Ok, Err, Option, Result, sym, refl, ap, ◌∙◌, subst, ap₂}
+use Rattle.std.proofs.Common.{◌≡◌, ℕ, ◌%◌, ◌^◌, ◌<◌, Bool, true, false, if◌then◌else◌, eqb, ltb, List, length, IfSome, Some, None, Ok, Err, Option, Result, sym, refl, ap, ◌∙◌, subst, ap₂}
+use Rattle.std.specs.Option.{ok_or}
 use Rattle.std.proofs.lemmas.Bool.{eqb-true}
-use Rattle.refusals.specs.declared.reasons.Refusal.TheVariants.{StartLength, RunTooLong, RunNotWhole}
+use Rattle.refusals.specs.declared.reasons.Refusal.TheVariants.{StartLength, RunTooLong, RunNotWhole, NoChainBlock}
 use Rattle.refusals.specs.declared.reasons.Refusal.{Refusal}
 use Rattle.chaining.specs.declared.calls.Request.TheVariants.{Pass, Turn, Restart}
 use Rattle.chaining.specs.declared.calls.Request.{Request}
-use Rattle.chaining.specs.Benches.{State, Answer, with_chain, taken, judged_run, PassedBy, Passed, judged_start, RestartedBy}
+use Rattle.chaining.specs.Benches.{State, Answer, with_chain, judged_run, PassedBy, Passed, judged_start, RestartedBy}
 use Rattle.chaining.specs.Mirrors.{Facing}
 use Rattle.chaining.specs.Runs.{Rewritten, block, chain_after}
 use Rattle.chaining.specs.Sessions.{Does}
@@ -14,13 +15,13 @@ use Rattle.chaining.proofs.Facing.{facing_turned}
 use Rattle.chaining.proofs.Passing.{run_back, chain_same, chain_lt}
 
 -- a run that is taken has whole blocks, and the bench has the chain block
-whole : (long whole-blocks : Bool) (chain : Option ℕ) (r : ℕ) → cond long (Err RunTooLong) (cond whole-blocks (taken chain) (Err RunNotWhole)) ≡ Ok r → (whole-blocks ≡ true) × (chain ≡ Some r)
+whole : (long whole-blocks : Bool) (chain : Option ℕ) (r : ℕ) → (if long then Err RunTooLong else (if whole-blocks then ok_or chain NoChainBlock else Err RunNotWhole)) ≡ Ok r → (whole-blocks ≡ true) × (chain ≡ Some r)
 whole true whole-blocks chain r e = search
 whole false true None r e = search
 whole false true (Some q) r e = search
 whole false false chain r e = search
 
-start_block : (eight : Bool) (b r : ℕ) → cond eight (Ok b) (Err StartLength) ≡ Ok r → r ≡ b
+start_block : (eight : Bool) (b r : ℕ) → (if eight then Ok b else Err StartLength) ≡ Ok r → r ≡ b
 start_block true b r e = search
 start_block false b r e = search
 

@@ -1,6 +1,7 @@
 -- A run that was sealed is opened to what it was, and one that was opened is sealed to what it was. Assumes nothing.
 use Rattle.std.proofs.Common.{◌≡◌, ℕ, zero, suc, ◌/◌, ◌%◌, ◌^◌, ◌<◌, ◌≤◌, List, length, sym, refl, ap, ◌∙◌, subst, ap₂, arith}
-use lib.Bits.{bit_xor, xor_assoc, xor_lt, xor_self, xor_zero_r}
+use Rattle.std.specs.Int.Bits.{bit_xor, xor_assoc, xor_self, xor_zero_r}
+use Rattle.std.proofs.lemmas.Nat.{xor_lt}
 use Rattle.ciphers.specs.Maps.{Inverse}
 use Rattle.chaining.specs.declared.direction.Direction.TheVariants.{Sealing, Opening}
 use Rattle.chaining.specs.declared.direction.Direction.{Direction}

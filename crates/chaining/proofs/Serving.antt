@@ -1,6 +1,6 @@
 -- One more call at the end of a session. Assumes nothing.
-use Rattle.std.proofs.Common.{◌≡◌, ℕ, ◌+◌, ◌<◌, ◌≤◌, List, [], ◌∷◌, ◌++◌, map, length, get_or, take, drop, set, Some, sym, refl, ap, ◌∙◌, subst, add-zero, arith}
-use Rattle.std.proofs.lemmas.List.{map-append, take_all, take_more, take_more_set, get_or-drop, drop-drop, drop-set-lt}
+use Rattle.std.proofs.Common.{◌≡◌, ℕ, ◌+◌, ◌<◌, List, [], ◌∷◌, ◌++◌, map, length, get_or, take, drop, set, Some, sym, refl, ap, ◌∙◌, subst, add-zero, arith}
+use Rattle.std.proofs.lemmas.List.{map-append, take_more, take_more_set, get_or-drop, drop-drop, drop-set-lt}
 use Rattle.chaining.specs.declared.calls.Call.{Call}
 use Rattle.chaining.specs.Benches.{State}
 use Rattle.chaining.specs.Sessions.{asked, Does, Exchange, Ran, last_of, ServedCall, Served}
@@ -52,8 +52,3 @@ serving_more s t u calls now i d next p l v e w = (
       (served_push s t u (take i calls) (take i now) (get_or calls i d) next v (subst (λ c. ServedCall t c next u) (same_at calls now i d e) w))),
   same_behind calls now i next e,
 )
-
-pub serving_all : (s t : State) (calls now : List Call) (i : ℕ) → length calls ≤ i → length now ≡ length calls → Served s (take i calls) (take i now) t → Served s calls now t
-serving_all s t calls now i p l v =
-    subst (λ cs. Served s cs now t) (take_all i calls p)
-    (subst (λ cs. Served s (take i calls) cs t) (take_all i now (subst (λ n. n ≤ i) (sym l) p)) v)

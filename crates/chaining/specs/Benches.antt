@@ -1,5 +1,6 @@
 -- What a bench stands for, and what each call on it does. Assumes nothing.
-use Rattle.std.specs.Prelude.{◌≡◌, ℕ, ◌%◌, cond, List, length, Some, None, Ok, Err, Option, Result, ◌==◌, nat_lt}
+use Rattle.std.specs.Prelude.{◌≡◌, ℕ, ◌%◌, if◌then◌else◌, List, length, Some, None, Ok, Err, Option, Result, ◌==◌, nat_lt, codes}
+use Rattle.std.specs.Option.{ok_or}
 use Rattle.refusals.specs.declared.reasons.Refusal.TheVariants.{StartLength, RunTooLong, RunNotWhole, NoChainBlock}
 use Rattle.refusals.specs.declared.reasons.Refusal.{Refusal}
 use Rattle.ciphers.specs.Maps.{Inverse}
@@ -20,12 +21,17 @@ state_of map b = record { map = map b.cipher; direction = b.direction; chain = b
 
 -- the same bench with a chain block
 abbrev pub with_chain : State → ℕ → State
-with_chain s r = record { map = s.map; direction = s.direction; chain = Some r }
+with_chain s r = record s { chain = Some r }
 
 -- the other direction
 abbrev pub other : Direction → Direction
 other Sealing = Opening
 other Opening = Sealing
+
+-- how a direction is printed
+abbrev pub direction_text : Direction → List ℕ
+direction_text Sealing = codes "sealing"
+direction_text Opening = codes "opening"
 
 -- done, or refused
 abbrev pub Answer : Type 0
@@ -41,14 +47,10 @@ pub record Turned (s : State) (t : State) : Type 0 where
   pub direction : t.direction ≡ other s.direction
   pub chain : t.chain ≡ s.chain
 
--- the chain block, if there is one
-abbrev pub taken : Option ℕ → Result ℕ Refusal
-taken None = Err NoChainBlock
-taken (Some r) = Ok r
-
 -- the chain block with which a run of n bytes is taken, or why it is turned away, judged in number order
 abbrev pub judged_run : ℕ → Option ℕ → Result ℕ Refusal
-judged_run n chain = cond (nat_lt 32768 n) (Err RunTooLong) (cond (n % 8 == 0) (taken chain) (Err RunNotWhole))
+judged_run n chain =
+    if nat_lt 32768 n then Err RunTooLong else (if n % 8 == 0 then ok_or chain NoChainBlock else Err RunNotWhole)
 
 -- what a pass of xs does once it is judged: refused, it leaves all as it was; taken, it rewrites xs to ys
 abbrev pub PassedBy : Result ℕ Refusal → State → List ℕ → Answer → List ℕ → State → Type 0
@@ -61,7 +63,7 @@ Passed s xs a ys t = PassedBy (judged_run (length xs) s.chain) s xs a ys t
 
 -- the chain block that a start sets, or why it is turned away
 abbrev pub judged_start : List ℕ → Result ℕ Refusal
-judged_start start = cond (length start == 8) (Ok (block start 0)) (Err StartLength)
+judged_start start = if length start == 8 then Ok (block start 0) else Err StartLength
 
 -- what a restart does once it is judged
 abbrev pub RestartedBy : Result ℕ Refusal → State → List ℕ → Answer → State → Type 0

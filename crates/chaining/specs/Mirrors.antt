@@ -1,13 +1,9 @@
 -- Two benches over one session, and the law that the second gives everything back. Assumes nothing.
 use Rattle.std.specs.Prelude.{◌≡◌, ℕ, ◌^◌, ◌<◌, List, [], ◌∷◌, map, IfSome, Some}
-use Rattle.ciphers.specs.Maps.{Inverse}
+use Rattle.ciphers.specs.Maps.{Inverse, SameMap}
 use Rattle.chaining.specs.declared.calls.Call.{Call}
 use Rattle.chaining.specs.Benches.{State, other, begun, Turned}
 use Rattle.chaining.specs.Sessions.{Exchange, Ran, last_of, requests, answers, earlier}
-
--- the same map of blocks
-abbrev pub SameMap : (ℕ → ℕ) → (ℕ → ℕ) → Type 0
-SameMap f g = (b : ℕ) → b < 2 ^ 64 → f b ≡ g b
 
 -- one bench seals and the other opens, under maps that undo each other, with the same chain block of 64 bits or none
 pub record Facing (s : State) (t : State) : Type 0 where

@@ -1,5 +1,6 @@
 -- Bytes as blocks of eight, and what chaining makes of them. Assumes nothing.
-use Rattle.std.specs.Prelude.{◌≡◌, ℕ, zero, suc, ◌+◌, ◌*◌, ◌/◌, ◌^◌, ◌<◌, List, length, bit_xor, slice_index}
+use Rattle.std.specs.Prelude.{◌≡◌, ℕ, zero, suc, ◌+◌, ◌*◌, ◌/◌, ◌<◌, List, length, bit_xor, slice_index, slice_range}
+use Rattle.std.specs.Int.{w64, from_be_bytes}
 use Rattle.chaining.specs.declared.direction.Direction.TheVariants.{Sealing, Opening}
 use Rattle.chaining.specs.declared.direction.Direction.{Direction}
 
@@ -9,7 +10,7 @@ Bytes xs = (i : ℕ) → slice_index xs i < 256
 
 -- block i, counted from 0, most significant byte first
 abbrev pub block : List ℕ → ℕ → ℕ
-block xs i = slice_index xs (8 * i) * 2 ^ 56 + slice_index xs (8 * i + 1) * 2 ^ 48 + slice_index xs (8 * i + 2) * 2 ^ 40 + slice_index xs (8 * i + 3) * 2 ^ 32 + slice_index xs (8 * i + 4) * 2 ^ 24 + slice_index xs (8 * i + 5) * 2 ^ 16 + slice_index xs (8 * i + 6) * 2 ^ 8 + slice_index xs (8 * i + 7)
+block xs i = from_be_bytes w64 (slice_range xs (8 * i) (8 * i + 8))
 
 -- the block before block i, which is r before the first
 abbrev pub before : ℕ → List ℕ → ℕ → ℕ

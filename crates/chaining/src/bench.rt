@@ -6,8 +6,10 @@ use crate::direction::Direction;
 use ciphers::Cipher;
 
 mod calling;
+mod rewriting;
 
 // A cipher, which it owns, a direction, and a chain block once there is one.
+// It has no model, since no model's value can hold the cipher's map, and `into_cipher` gives back the cipher itself.
 #[derive(Drop)]
 pub struct Bench<C> {
     cipher: C,

@@ -5,7 +5,7 @@ use refusals::Refusal;
 
 // What is asked of a bench: a pass of a run, a turn, a restart with a start. `R` holds the bytes; in definitions it is a
 // list of them.
-#[derive(Drop)]
+#[derive(Clone, Debug, PartialEq, Eq, Drop)]
 pub enum Request<R> {
     Pass(R),
     Turn,

@@ -24,8 +24,6 @@ pub(crate) fn judge_run(length: usize, chain: Option<u64>) -> Result<u64, Refusa
 pub(crate) fn judge_start(start: &[u8]) -> Result<u64, Refusal>
     ensures { result ≡ judged_start start.now }
 {
-    match start {
-        [a, b, c, d, e, f, g, h] => Ok(u64::from_be_bytes([*a, *b, *c, *d, *e, *f, *g, *h])),
-        _ => Err(Refusal::StartLength),
-    }
+    let bytes = start.try_into().map_err(|_| Refusal::StartLength)?;
+    Ok(u64::from_be_bytes(bytes))
 }

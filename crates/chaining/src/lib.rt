@@ -11,8 +11,6 @@ mod bench;
 mod calls;
 mod direction;
 mod judging;
-mod links;
-mod runs;
 mod sessions;
 
 pub use bench::Bench;

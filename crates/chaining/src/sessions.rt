@@ -1,6 +1,7 @@
 // Sessions on benches.
-ghost use Rattle.chaining.specs.Benches.{state_of, begun, Passed, Turned};
-ghost use Rattle.chaining.specs.Mirrors.{SameMap, SessionLaw, Mirrored, GivenBack};
+ghost use Rattle.ciphers.specs.Maps.{SameMap};
+ghost use Rattle.chaining.specs.Benches.{state_of, begun, Turned};
+ghost use Rattle.chaining.specs.Mirrors.{SessionLaw, Mirrored, GivenBack};
 ghost use Rattle.chaining.specs.Sessions.{asked, Does, ServedCall, Served};
 
 use crate::bench::Bench;
@@ -8,24 +9,17 @@ use crate::calls::{Call, Request};
 use ciphers::Cipher;
 use refusals::Refusal;
 
-// A pass of all that a vector holds.
-fn pass_all<C: Cipher>(bench: &mut Bench<C>, run: &mut Vec<u8>) -> Result<(), Refusal>
-    ensures { Passed (state_of C.Cipher.map bench.old) run.old.items result run.new.items (state_of C.Cipher.map bench.new) }
-{
-    bench.pass(run.as_mut_slice())
-}
-
 // Does what is asked.
 fn answer<C: Cipher>(bench: &mut Bench<C>, request: &mut Request<Vec<u8>>) -> Result<(), Refusal>
     ensures { Does (state_of C.Cipher.map bench.old) (asked request.old) result (asked request.new) (state_of C.Cipher.map bench.new) }
 {
     match request {
-        Request::Pass(run) => pass_all(bench, run),
+        Request::Pass(run) => bench.pass(run),
         Request::Turn => {
             bench.turn();
             Ok(())
         }
-        Request::Restart(start) => bench.restart(start.as_slice()),
+        Request::Restart(start) => bench.restart(start),
     }
 }
 

@@ -1,5 +1,5 @@
 -- What each refusal is told as. Assumes nothing.
-use Rattle.std.specs.Prelude.{ℕ}
+use Rattle.std.specs.Prelude.{ℕ, List, ◌++◌, codes, decimal}
 use Rattle.refusals.specs.declared.notices.Notice.{Notice}
 use Rattle.refusals.specs.declared.reasons.Refusal.TheVariants.{StartLength, RunTooLong, RunNotWhole, NoChainBlock}
 use Rattle.refusals.specs.declared.reasons.Refusal.{Refusal}
@@ -14,3 +14,7 @@ notice_of StartLength = numbered 7 0
 notice_of RunTooLong = numbered 8 0
 notice_of RunNotWhole = numbered 9 0
 notice_of NoChainBlock = numbered 10 0
+
+-- how a notice is printed: its number at its place
+abbrev pub notice_text : Notice → List ℕ
+notice_text notice = decimal notice.number ++ codes " at " ++ decimal notice.place

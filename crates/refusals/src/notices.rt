@@ -1,18 +1,37 @@
 // What a caller is told of a refusal.
-ghost use Rattle.std.specs.Prelude.{◌≡◌};
-ghost use Rattle.refusals.specs.Notices.{numbered};
+ghost use Rattle.std.specs.Prelude.{◌≡◌, Some};
+ghost use Rattle.refusals.specs.Notices.{notice_of, notice_text};
 
-// A number, and a place in what the caller brought.
-#[derive(Clone, Copy)]
+use crate::reasons::Refusal;
+use std::fmt;
+
+// A number, and a place in what the caller brought. It is a number because that is what a caller is told; code speaks of
+// the cases.
+#[derive(Clone, Copy, Debug, PartialEq, Eq)]
 pub struct Notice {
     pub number: u64,
     pub place: usize,
 }
 
-impl Notice {
-    pub(crate) fn new(number: u64, place: usize) -> Notice
-        ensures { result ≡ numbered number place }
-    {
-        Notice { number, place }
+impl From<Refusal> for Notice {
+    ghost from_gives = { λ refusal notice. notice ≡ notice_of refusal };
+
+    fn from(refusal: Refusal) -> Notice {
+        let number = match refusal {
+            Refusal::StartLength => 7,
+            Refusal::RunTooLong => 8,
+            Refusal::RunNotWhole => 9,
+            Refusal::NoChainBlock => 10,
+        };
+        Notice { number, place: 0 }
+    }
+}
+
+impl fmt::Display for Notice {
+    ghost output = { λ notice. Some (notice_text notice) };
+
+    fn fmt<W: fmt::Write>(&self, f: &mut fmt::Formatter<W>) -> fmt::Result {
+        let Notice { number, place } = *self;
+        write!(f, "{number} at {place}")
     }
 }

@@ -4,7 +4,6 @@ ghost use Rattle.chaining.specs.Benches.{state_of, Restarted, Turned, Passed};
 
 use crate::bench::Bench;
 use crate::judging::{judge_run, judge_start};
-use crate::runs::rewrite;
 use ciphers::Cipher;
 use refusals::Refusal;
 
@@ -31,7 +30,7 @@ impl<C: Cipher> Bench<C> {
         ensures passed { Passed (state_of C.Cipher.map self.old) run.old result run.new (state_of C.Cipher.map self.new) }
     {
         let chain = judge_run(run.len(), self.chain)?;
-        self.chain = Some(rewrite(&self.cipher, self.direction, chain, run));
+        self.chain = Some(self.rewrite(chain, run));
         Ok(())
     }
 }
