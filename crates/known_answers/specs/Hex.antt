@@ -1,5 +1,5 @@
 -- What hexadecimal digits write, the most significant first. Assumes nothing.
-use Rattle.std.specs.Prelude.{ℕ, ◌+◌, ◌-◌, ◌*◌, Bool, cond, ◌&&◌, List, [], ◌∷◌, length, Some, None, Option, ◌==◌, nat_le}
+use Rattle.std.specs.Prelude.{ℕ, ◌+◌, ◌-◌, ◌*◌, Bool, ◌&&◌, List, [], ◌∷◌, length, map, Some, None, Option, ◌==◌, nat_le, if◌then◌else◌}
 use Rattle.std.specs.Option.{option_map}
 use Rattle.std.specs.Int.Digits.{number_from_digits}
 
@@ -10,8 +10,10 @@ among low high c = nat_le low c && nat_le c high
 -- what the character c is worth: 0 to 9, a to f, A to F
 abbrev pub digit_of : ℕ → Option ℕ
 digit_of c =
-    cond (among 48 57 c) (Some (c - 48))
-    (cond (among 97 102 c) (Some (c - 97 + 10)) (cond (among 65 70 c) (Some (c - 65 + 10)) None))
+    if among 48 57 c then Some (c - 48)
+    else if among 97 102 c then Some (c - 97 + 10)
+    else if among 65 70 c then Some (c - 65 + 10)
+    else None
 
 -- a first element and the others, where all are there
 abbrev pub front : {X : Type 0} → Option X → Option (List X) → Option (List X)
@@ -29,10 +31,14 @@ paired None o = None
 abbrev pub byte_of : ℕ → ℕ → Option ℕ
 byte_of high low = paired (digit_of high) (digit_of low)
 
+-- the values, where all are there
+abbrev pub all_given : {X : Type 0} → List (Option X) → Option (List X)
+all_given [] = Some []
+all_given (x ∷ xs) = front x (all_given xs)
+
 -- what each character is worth, where all are digits
 abbrev pub values_of : List ℕ → Option (List ℕ)
-values_of [] = Some []
-values_of (c ∷ cs) = front (digit_of c) (values_of cs)
+values_of cs = all_given (map digit_of cs)
 
 -- the number that digits write
 abbrev pub number_of : List ℕ → Option ℕ
@@ -40,10 +46,14 @@ number_of cs = option_map (number_from_digits 16) (values_of cs)
 
 -- the number that sixteen digits write, and no fewer or more
 abbrev pub block_of : List ℕ → Option ℕ
-block_of cs = cond (length cs == 16) (number_of cs) None
+block_of cs = if length cs == 16 then number_of cs else None
+
+-- what each two digits write, and nothing for a last one alone
+abbrev pub pairs_of : List ℕ → List (Option ℕ)
+pairs_of [] = []
+pairs_of (c ∷ []) = None ∷ []
+pairs_of (high ∷ low ∷ cs) = byte_of high low ∷ pairs_of cs
 
 -- the bytes that digits write, two to a byte
 abbrev pub bytes_of : List ℕ → Option (List ℕ)
-bytes_of [] = Some []
-bytes_of (c ∷ []) = None
-bytes_of (high ∷ low ∷ cs) = front (byte_of high low) (bytes_of cs)
+bytes_of cs = all_given (pairs_of cs)

@@ -1,8 +1,12 @@
 -- Verdicts counted by their kind. Assumes nothing.
-use Rattle.std.specs.Prelude.{ℕ, ◌+◌, ◌-◌, ◌^◌, min}
+use Rattle.std.specs.Prelude.{ℕ, ◌+◌, ◌-◌, ◌^◌, min, Result, Ok, Err}
 use Rattle.known_answers.specs.declared.tally.Tally.{Tally}
-use Rattle.known_answers.specs.declared.tally.Verdict.TheVariants.{Ok, Differs, Unreadable}
-use Rattle.known_answers.specs.declared.tally.Verdict.{Verdict}
+use Rattle.known_answers.specs.declared.tally.Fault.TheVariants.{Differs, Unreadable}
+use Rattle.known_answers.specs.declared.tally.Fault.{Fault}
+
+-- how a known answer came out
+abbrev pub Verdict : Type 0
+Verdict = Result (Unit {0}) Fault
 
 -- nothing counted yet
 abbrev pub none : Tally
@@ -14,6 +18,6 @@ more n = min (n + 1) (2 ^ 64 - 1)
 
 -- one more in the verdict's own total
 abbrev pub counted : Verdict → Tally → Tally
-counted Ok t = record { ok = more t.ok; differs = t.differs; unreadable = t.unreadable }
-counted (Differs block) t = record { ok = t.ok; differs = more t.differs; unreadable = t.unreadable }
-counted Unreadable t = record { ok = t.ok; differs = t.differs; unreadable = more t.unreadable }
+counted (Ok u) t = record t { ok = more t.ok }
+counted (Err (Differs block)) t = record t { differs = more t.differs }
+counted (Err Unreadable) t = record t { unreadable = more t.unreadable }

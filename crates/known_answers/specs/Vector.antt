@@ -1,11 +1,10 @@
 -- What a line with a known answer states. Assumes nothing.
 use Rattle.std.specs.Prelude.{ℕ, List, [], ◌∷◌, Some, None, Option}
-use Rattle.std.specs.Option.{option_map}
 use Rattle.known_answers.specs.declared.vector.Fields.{Fields}
 use Rattle.known_answers.specs.declared.vector.Vector.{Vector}
 use Rattle.known_answers.specs.Cut.{fields_of}
 use Rattle.known_answers.specs.Hex.{block_of}
-use Rattle.known_answers.specs.Keys.{held, key_of}
+use Rattle.known_answers.specs.Keys.{key_of}
 
 -- four fields, each as its bytes
 abbrev pub Written : Type 0
@@ -15,18 +14,14 @@ Written = List ℕ × List ℕ × List ℕ × List ℕ
 abbrev pub parts : Fields → Written
 parts f = (f.description.now, f.key.now, f.text.now, f.sealed.now)
 
--- the only one of some fields
-abbrev pub only_of : List (List ℕ) → Option (List ℕ)
-only_of [] = None
-only_of (field ∷ []) = Some field
-only_of (field ∷ next ∷ others) = None
-
 -- exactly four fields
 abbrev pub four_of : List (List ℕ) → Option Written
 four_of [] = None
 four_of (description ∷ []) = None
 four_of (description ∷ key ∷ []) = None
-four_of (description ∷ key ∷ text ∷ others) = option_map (λ sealed. (description, key, text, sealed)) (only_of others)
+four_of (description ∷ key ∷ text ∷ []) = None
+four_of (description ∷ key ∷ text ∷ sealed ∷ []) = Some (description, key, text, sealed)
+four_of (description ∷ key ∷ text ∷ sealed ∷ next ∷ others) = None
 
 -- a description, a key, a text and what it is sealed to
 abbrev pub Reading : Type 0
@@ -34,7 +29,7 @@ Reading = List ℕ × List ℕ × ℕ × ℕ
 
 -- what a known answer holds
 abbrev pub contents : Vector → Reading
-contents v = (v.description.now, held v.key, v.text, v.sealed)
+contents v = (v.description.now, v.key, v.text, v.sealed)
 
 -- a reading of which all parts are there
 abbrev pub all_of : List ℕ → Option (List ℕ) → Option ℕ → Option ℕ → Option Reading

@@ -1,22 +1,18 @@
 // Hexadecimal: digits of either case, the most significant first.
-ghost use Rattle.std.specs.Prelude.{◌≡◌, ◌+◌, ◌*◌, ◌^◌, ◌<◌, ◌≤◌, length, IfSome, Some, nat_lt};
-ghost use Rattle.std.specs.Option.{option_map};
-ghost use Rattle.known_answers.specs.Hex.{digit_of, paired, byte_of, number_of, block_of, bytes_of};
-ghost use Rattle.known_answers.specs.Keys.{held, key_of};
+ghost use Rattle.std.specs.Prelude.{◌≡◌, ◌+◌, ◌*◌, ◌^◌, ◌<◌, ◌≤◌, length, IfSome, Some};
+ghost use Rattle.std.specs.Iterator.{YieldsFirst, item_count};
+ghost use Rattle.known_answers.specs.Hex.{digit_of, paired, byte_of, number_of, block_of, bytes_of, pairs_of};
+ghost use Rattle.known_answers.specs.Keys.{key_of};
 
 use crate::keys::KeyBytes;
+use std::marker::Model;
 
 // What a digit is worth.
 pub fn digit(c: char) -> Option<u8>
     ensures value { result ≡ digit_of c }
     ensures within { IfSome result (λ d. d < 16) }
 {
-    match c {
-        '0'..='9' => Some(c as u8 - b'0'),
-        'a'..='f' => Some(c as u8 - b'a' + 10),
-        'A'..='F' => Some(c as u8 - b'A' + 10),
-        _ => None,
-    }
+    c.to_digit(16).map(|d| d as u8)
 }
 
 // The byte that two digits write.
@@ -58,32 +54,68 @@ pub fn block(digits: &[u8]) -> Option<u64>
     }
 }
 
+// What each pair of digits writes, one after another, and `None` for a last digit alone.
+#[derive(Drop)]
+pub struct Pairs<'a> {
+    digits: &'a [u8],
+}
+
+impl<'a> Model for Pairs<'a> {
+    ghost use Rattle.std.specs.Prelude.{ℕ, List, Option};
+    ghost use Rattle.known_answers.specs.Hex.{pairs_of};
+
+    ghost Value = { List (Option ℕ) };
+
+    ghost view = { λ p. pairs_of p.digits.now };
+}
+
+impl<'a> Pairs<'a> {
+    pub fn new(digits: &'a [u8]) -> Pairs<'a>
+        ensures { result ≡ pairs_of digits.now }
+    {
+        Pairs { digits }
+    }
+}
+
+impl<'a> Iterator for Pairs<'a> {
+    type Item = Option<u8>;
+
+    ghost next_gives = { YieldsFirst (λ pairs. pairs) };
+
+    ghost remaining = { item_count (λ pairs. pairs) };
+
+    fn next(&mut self) -> Option<Option<u8>> {
+        match self.digits {
+            [] => None,
+            [_] => {
+                self.digits = &[];
+                Some(None)
+            }
+            [high, low, rest @ ..] => {
+                self.digits = rest;
+                Some(byte(*high, *low))
+            }
+        }
+    }
+}
+
 // The bytes that at most 192 digits write, two to a byte.
 fn bytes(digits: &[u8]) -> Option<KeyBytes>
     requires { length digits.now ≤ 192 }
-    ensures { option_map held result ≡ bytes_of digits.now }
+    ensures { result ≡ bytes_of digits.now }
 {
     let mut key = KeyBytes::new();
-    let mut rest = digits;
-    while let [high, low, after @ ..] = rest {
-        key.push(byte(*high, *low)?);
-        rest = after;
+    for byte in Pairs::new(digits) {
+        key.push(byte?);
     }
-    if rest.is_empty() { Some(key) } else { None }
-}
-
-// Whether there are more digits than a key has.
-fn too_many(digits: &[u8]) -> bool
-    ensures { result ≡ nat_lt 192 (length digits.now) }
-{
-    digits.len() > 192
+    Some(key)
 }
 
 // The key that the digits write, two to a byte; none where they do not, or write more than 96 bytes.
 pub fn key_bytes(digits: &[u8]) -> Option<KeyBytes>
-    ensures { option_map held result ≡ key_of digits.now }
+    ensures { result ≡ key_of digits.now }
 {
-    if too_many(digits) {
+    if digits.len() > 192 {
         None
     } else {
         bytes(digits)

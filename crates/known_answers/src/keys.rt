@@ -1,39 +1,45 @@
-// A key as its bytes, at most 96 of them, kept in the value itself.
-ghost use Rattle.std.specs.Prelude.{◌≡◌, ◌+◌, ◌<◌, [], ◌∷◌, ◌++◌};
-ghost use Rattle.known_answers.specs.Keys.{held};
+// A key as its bytes, at most 96 of them, kept in the value itself. It is no other name of the library's vector, so that
+// nobody outside adds to a key.
+ghost use Rattle.std.specs.Prelude.{◌≡◌, ◌<◌, ◌≤◌, [], ◌∷◌, ◌++◌, length};
+
+use arrayvec::ArrayVec;
+use std::marker::Model;
 
 #[derive(Drop)]
 pub struct KeyBytes {
-    bytes: [u8; 96],
-    count: usize,
+    bytes: ArrayVec<u8, 96>,
+}
+
+impl Model for KeyBytes {
+    ghost use Rattle.std.specs.Prelude.{ℕ, List};
+
+    ghost Value = { List ℕ };
+
+    ghost view = { λ k. k.bytes.items };
 }
 
 impl KeyBytes {
     // A key of no bytes.
     pub fn new() -> KeyBytes
-        ensures items { held result ≡ [] }
-        ensures len { result.count ≡ 0 }
+        ensures { result ≡ [] }
     {
         KeyBytes {
-            bytes: [0; 96],
-            count: 0,
+            bytes: ArrayVec::new(),
         }
     }
 
     // One byte more.
     pub(crate) fn push(&mut self, byte: u8)
-        requires { self.old.count < 96 }
-        ensures items { held self.new ≡ held self.old ++ byte ∷ [] }
-        ensures len { self.new.count ≡ self.old.count + 1 }
+        requires { length self.old < 96 }
+        ensures { self.new ≡ self.old ++ byte ∷ [] }
     {
-        let at = self.count;
-        self.bytes[at] = byte;
-        self.count = at + 1;
+        self.bytes.push(byte);
     }
 
     pub fn as_slice(&self) -> &[u8]
-        ensures { result.now ≡ held self.now }
+        ensures value { result.now ≡ self.now }
+        ensures fits { length result.now ≤ 96 }
     {
-        &self.bytes[0..self.count.min(96)]
+        self.bytes.as_slice()
     }
 }

@@ -4,7 +4,6 @@
 // what its definition in specs/ gives, and answers none exactly where the definition gives none. Nothing asks for memory.
 #![tactic(auto)]
 
-mod cut;
 pub mod hex;
 pub mod keys;
 pub mod lines;

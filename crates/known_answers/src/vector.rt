@@ -1,12 +1,12 @@
 // A line with a known answer.
-ghost use Rattle.std.specs.Prelude.{◌≡◌, [], ◌∷◌, MatchOption};
+ghost use Rattle.std.specs.Prelude.{◌≡◌};
 ghost use Rattle.std.specs.Option.{option_map};
 ghost use Rattle.known_answers.specs.Cut.{fields_of};
-ghost use Rattle.known_answers.specs.Vector.{parts, only_of, four_of, contents, reading_of};
+ghost use Rattle.known_answers.specs.Vector.{parts, four_of, contents, reading_of};
 
-use crate::cut::split;
 use crate::hex::{block, key_bytes};
 use crate::keys::KeyBytes;
+use itertools::Itertools;
 
 // The four fields of a line, as they are written.
 #[derive(Clone, Copy)]
@@ -26,31 +26,18 @@ pub struct Vector<'a> {
     pub sealed: u64,
 }
 
-// The first field, and what follows its semicolon.
-fn first_field(line: &[u8]) -> Option<(&[u8], &[u8])>
-    ensures { MatchOption result (fields_of line.now ≡ line.now ∷ []) (λ p. fields_of line.now ≡ p.0.now ∷ fields_of p.1.now) }
+// The fields between the semicolons of a line, where there are exactly four, as the library collects them.
+fn quartered(line: &[u8]) -> Option<(&[u8], &[u8], &[u8], &[u8])>
+    ensures { option_map (λ f. (f.0.now, f.1.now, f.2.now, f.3.now)) result ≡ four_of (fields_of line.now) }
 {
-    split(line, b';')
-}
-
-// The field that the text is, where it has no semicolon.
-fn last_field(text: &[u8]) -> Option<&[u8]>
-    ensures { option_map (λ x. x.now) result ≡ only_of (fields_of text.now) }
-{
-    match split(text, b';') {
-        Some(_) => None,
-        None => Some(text),
-    }
+    line.split(|b| *b == b';').collect_tuple()
 }
 
 // The fields of a line that has exactly four.
 pub fn four_fields(line: &[u8]) -> Option<Fields<'_>>
     ensures { option_map parts result ≡ four_of (fields_of line.now) }
 {
-    let (description, rest) = first_field(line)?;
-    let (key, rest) = first_field(rest)?;
-    let (text, rest) = first_field(rest)?;
-    let sealed = last_field(rest)?;
+    let (description, key, text, sealed) = quartered(line)?;
     Some(Fields {
         description,
         key,

@@ -1,18 +1,19 @@
 -- The descriptions that are understood. Assumes nothing.
-use Rattle.std.specs.Prelude.{ℕ, ◌+◌, ◌-◌, ◌*◌, Bool, cond, ◌&&◌, List, [], ◌∷◌, Some, None, Option, ◌==◌}
+use Rattle.std.specs.Prelude.{ℕ, ◌+◌, ◌-◌, ◌*◌, Bool, ◌&&◌, List, [], ◌∷◌, Some, None, Option, ◌==◌, if◌then◌else◌}
 use Rattle.known_answers.specs.Hex.{among}
 
 -- the number that one or two decimal digits write, the first of them not 0
 abbrev pub count_of : List ℕ → Option ℕ
 count_of [] = None
-count_of (ones ∷ []) = cond (among 49 57 ones) (Some (ones - 48)) None
-count_of (tens ∷ ones ∷ []) = cond (among 49 57 tens && among 48 57 ones) (Some ((tens - 48) * 10 + (ones - 48))) None
+count_of (ones ∷ []) = if among 49 57 ones then Some (ones - 48) else None
+count_of (tens ∷ ones ∷ []) =
+    if among 49 57 tens && among 48 57 ones then Some ((tens - 48) * 10 + (ones - 48)) else None
 count_of (a ∷ b ∷ c ∷ ds) = None
 
 -- a count of 1 to 32
 abbrev pub within_cycles : Option ℕ → Option ℕ
 within_cycles None = None
-within_cycles (Some c) = cond (among 1 32 c) (Some c) None
+within_cycles (Some c) = if among 1 32 c then Some c else None
 
 -- the four letters of "xtea"
 abbrev pub is_xtea : ℕ → ℕ → ℕ → ℕ → Bool
@@ -24,5 +25,6 @@ cycles_of [] = None
 cycles_of (x ∷ []) = None
 cycles_of (x ∷ t ∷ []) = None
 cycles_of (x ∷ t ∷ e ∷ []) = None
-cycles_of (x ∷ t ∷ e ∷ a ∷ []) = cond (is_xtea x t e a) (Some 32) None
-cycles_of (x ∷ t ∷ e ∷ a ∷ colon ∷ digits) = cond (is_xtea x t e a && colon == 58) (within_cycles (count_of digits)) None
+cycles_of (x ∷ t ∷ e ∷ a ∷ []) = if is_xtea x t e a then Some 32 else None
+cycles_of (x ∷ t ∷ e ∷ a ∷ colon ∷ digits) =
+    if is_xtea x t e a && colon == 58 then within_cycles (count_of digits) else None

@@ -1,6 +1,5 @@
 // The descriptions that are understood: `xtea`, and `xtea:` with a number of cycles.
 ghost use Rattle.std.specs.Prelude.{◌≡◌};
-ghost use Rattle.std.specs.Option.{option_map};
 ghost use Rattle.trials.specs.Descriptions.{count_of, cycles_of};
 
 use xtea::Cycles;
@@ -20,11 +19,11 @@ fn count(digits: &[u8]) -> Option<usize>
 
 // The cycles that a description asks for.
 pub fn cycles_named(description: &[u8]) -> Option<Cycles>
-    ensures { option_map (λ c. c.count) result ≡ cycles_of description.now }
+    ensures { result ≡ cycles_of description.now }
 {
-    match description {
-        [b'x', b't', b'e', b'a'] => Some(Cycles::full()),
-        [b'x', b't', b'e', b'a', b':', digits @ ..] => Cycles::new(count(digits)?),
+    match description.strip_prefix(b"xtea")? {
+        [] => Some(Cycles::full()),
+        [b':', digits @ ..] => Cycles::new(count(digits)?),
         _ => None,
     }
 }

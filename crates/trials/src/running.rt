@@ -1,22 +1,34 @@
 // The lines of an input tried one after another.
-ghost use Rattle.std.specs.Prelude.{◌≡◌, ◌<◌, length, OnSome};
+ghost use Rattle.std.specs.Prelude.{◌≡◌};
+ghost use Rattle.std.specs.Iterator.{item_count};
 ghost use Rattle.known_answers.specs.Tally.{none};
-ghost use Rattle.trials.specs.Runs.{verdicts_left, verdicts_of, Steps};
+ghost use Rattle.trials.specs.Runs.{verdicts_of, Steps};
 
 use crate::examining::examine;
 use known_answers::lines::Lines;
 use known_answers::tally::{Tally, Verdict};
+use std::marker::Model;
 
-// The lines that are still to be tried, and the totals so far.
+// The verdicts on the lines that are still to be tried, and the totals so far.
 #[derive(Drop)]
 pub struct Run<'a> {
     lines: Lines<'a>,
     tally: Tally,
 }
 
+impl<'a> Model for Run<'a> {
+    ghost use Rattle.std.specs.Prelude.{map};
+    ghost use Rattle.trials.specs.Runs.{Progress};
+    ghost use Rattle.trials.specs.Verdicts.{verdict_of};
+
+    ghost Value = { Progress };
+
+    ghost view = { λ r. record { left = map verdict_of r.lines; tally = r.tally } };
+}
+
 impl<'a> Run<'a> {
     pub fn new(input: &'a [u8]) -> Run<'a>
-        ensures verdicts { verdicts_left result ≡ verdicts_of input.now }
+        ensures verdicts { result.left ≡ verdicts_of input.now }
         ensures totals { result.tally ≡ none }
     {
         Run {
@@ -25,21 +37,25 @@ impl<'a> Run<'a> {
         }
     }
 
-    // The verdict on the next line, which is counted.
-    pub fn next_verdict(&mut self) -> Option<Verdict>
-        ensures steps { Steps self.old result self.new }
-        ensures fewer { OnSome result (length (verdicts_left self.new) < length (verdicts_left self.old)) }
-    {
-        let line = self.lines.next_line()?;
-        let verdict = examine(line);
-        self.tally.count(&verdict);
-        Some(verdict)
-    }
-
     // The totals of the verdicts so far.
     pub fn tally(&self) -> Tally
         ensures { result ≡ self.now.tally }
     {
         self.tally
+    }
+}
+
+impl<'a> Iterator for Run<'a> {
+    type Item = Verdict;
+
+    ghost next_gives = { Steps };
+
+    ghost remaining = { item_count (λ r. r.left) };
+
+    // The verdict on the next line, which is counted.
+    fn next(&mut self) -> Option<Verdict> {
+        let verdict = examine(self.lines.next()?);
+        self.tally.count(&verdict);
+        Some(verdict)
     }
 }

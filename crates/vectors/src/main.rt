@@ -12,9 +12,8 @@ use trials::Run;
 
 fn print_verdict(rt: &HostRuntime, number: usize, verdict: &Verdict) -> io::Result<()> {
     match verdict {
-        Verdict::Ok => println!(rt; "{number} ok"),
-        Verdict::Differs(block) => println!(rt; "{number} differs {block:016X}"),
-        Verdict::Unreadable => println!(rt; "{number} unreadable"),
+        Ok(()) => println!(rt; "{number} ok"),
+        Err(fault) => println!(rt; "{number} {fault}"),
     }
 }
 
@@ -24,7 +23,8 @@ fn print_verdicts(rt: &HostRuntime, input: &[u8]) -> io::Result<Tally>
 {
     let mut run = Run::new(input);
     let mut number: usize = 0;
-    while let Some(verdict) = run.next_verdict() {
+    // Not `for .. in run.by_ref().enumerate()`: std does not say that `next` of a `&mut` keeps its reference, so the totals stay open.
+    while let Some(verdict) = run.next() {
         number = number.saturating_add(1);
         print_verdict(rt, number, &verdict)?;
     }

@@ -1,17 +1,16 @@
 -- `bytes` meets its contract. Assumes nothing.
-use Rattle.std.proofs.Common.{◌≤◌, length, sym, ◌∙◌, arith, length-drop, length-take, rules}
-use Rattle.known_answers.specs.Keys.{held}
-use Rattle.known_answers.proofs.Digits.{onto_start, onto_more}
+use Rattle.std.proofs.Common.{◌≡◌, ◌∷◌, Some, sym, ◌∙◌, arith, length-append}
+use Rattle.known_answers.specs.Hex.{all_given, pairs_of}
+use Rattle.known_answers.proofs.Digits.{onto_start, onto_more, length-pairs_of}
 use Rattle.known_answers.proofs.hex.bytes.Goals as goal
 
-pub loop-rest-init : goal.loop-rest-init
-loop-rest-init c = (omega (arith, c.new-key.ensures.len), onto_start (held c.new-key.result) c.args.digits.now c.new-key.ensures.items)
+pub loop-byte-init : goal.loop-byte-init
+loop-byte-init c =
+    let pairs : c.into_iter-byte-iterator.result ≡ pairs_of c.args.digits.now = cc in
+    rw (c.new-key.ensures, pairs) (tt, tt, omega (arith, length-pairs_of c.args.digits.now), onto_start (all_given (pairs_of c.args.digits.now)))
 
-pub loop-rest-preserved : goal.loop-rest-preserved
-loop-rest-preserved c =
-    let two : 2 ≤ length c.loop-rest.rest.now = search rules in (
-      simp (length-take, length-drop) (omega (arith, c.push.ensures.len, c.loop-rest.invariant.0, two)),
-      onto_more (held c.loop-rest.key) (held c.push.new.self) c.loop-rest.rest.now c.in_ok-byte.field-0 two
-          (sym c.in_ok-byte.ensures) c.push.ensures.items
-          ∙ c.loop-rest.invariant.1,
-    )
+pub loop-byte-preserved : goal.loop-byte-preserved
+loop-byte-preserved c =
+    let left : c.loop-byte.byte-iterator ≡ Some c.in_ok-byte.field-0 ∷ c.next.new.self = rw c.in_ok-byte.was at c.in-Some.ensures.steps in
+    let kept = rw left at c.loop-byte.invariant in
+    rw (c.push.ensures, length-append) (tt, tt, omega (arith, kept), sym (onto_more c.loop-byte.key c.in_ok-byte.field-0 (all_given c.next.new.self)) ∙ kept.3)
