@@ -1,25 +1,19 @@
--- One more call copied. Assumes nothing.
-use Rattle.std.proofs.Common.{◌≡◌, ℕ, ◌+◌, ◌<◌, ◌≤◌, List, [], ◌∷◌, ◌++◌, map, length, get_or, take, None, sym, refl, ◌∙◌, subst}
-use Rattle.std.proofs.lemmas.List.{map-append, take_all, take_more}
+-- Calls that are copied one by one. Assumes nothing.
+use Rattle.std.proofs.Common.{◌≡◌, ℕ, suc, ◌<◌, List, [], ◌∷◌, map, length, get_or, None, refl, ap₂, arith}
 use Rattle.chaining.specs.declared.calls.Call.{Call}
 use Rattle.chaining.specs.Sessions.{asked}
-use Rattle.transcripts.specs.Copies.{Copied}
+use Rattle.transcripts.specs.Copies.{IsCopy, Copied}
 
--- one more at the end of each list, under maps that agree so far and on what is added
-push_same : {X : Type 0} (f g : Call → X) (xs ys : List Call) (x y : Call) → map f xs ≡ map g ys → f x ≡ g y → map f (xs ++ x ∷ []) ≡ map g (ys ++ y ∷ [])
-push_same f g xs ys x y e q = map-append f xs (x ∷ []) ∙ (λ t. e t ++ (q t ∷ [])) ∙ sym (map-append g ys (y ∷ []))
+-- two lists that agree at each place, under two maps
+map_same : {X : Type 0} (f g : Call → X) (xs ys : List Call) → length ys ≡ length xs → ((k : ℕ) (d : Call) → k < length xs → f (get_or ys k d) ≡ g (get_or xs k d)) → map f ys ≡ map g xs
+map_same f g [] [] l e = refl
+map_same f g [] (y ∷ ys) l e = absurd (omega arith)
+map_same f g (x ∷ xs) [] l e = absurd (omega arith)
+map_same f g (x ∷ xs) (y ∷ ys) l e = ap₂ (λ z zs. z ∷ zs) (e 0 x (omega arith)) (map_same f g xs ys (omega arith) (λ k d p. e (suc k) d (omega arith)))
 
-pub copied_more : (calls out now : List Call) (copy d : Call) (i : ℕ) → i < length calls → Copied (take i calls) out → now ≡ out ++ copy ∷ [] → asked copy.request ≡ asked (get_or calls i d).request → copy.answer ≡ None → copy.earlier ≡ None → Copied (take (i + 1) calls) now
-copied_more calls out now copy d i p c n q a b =
-    let pushed : Copied (take i calls ++ get_or calls i d ∷ []) (out ++ copy ∷ []) = record {
-      requests = push_same (λ x. asked x.request) (λ x. asked x.request) out (take i calls) copy (get_or calls i d) c.requests q;
-      answers = push_same (λ x. x.answer) (λ _. None) out (take i calls) copy (get_or calls i d) c.answers a;
-      earlier = push_same (λ x. x.earlier) (λ _. None) out (take i calls) copy (get_or calls i d) c.earlier b;
-    } in
-    subst (λ cs. Copied cs now) (sym (take_more calls i d p)) (subst (Copied (take i calls ++ get_or calls i d ∷ [])) (sym n) pushed)
-
-pub copied_all : (calls out : List Call) (i : ℕ) → length calls ≤ i → Copied (take i calls) out → Copied calls out
-copied_all calls out i p c = subst (λ cs. Copied cs out) (take_all i calls p) c
-
-pub copied_none : (out : List Call) → out ≡ [] → Copied [] out
-copied_none out e = subst (Copied []) (sym e) (record { requests = refl; answers = refl; earlier = refl })
+pub copied_each : (calls copies : List Call) → length copies ≡ length calls → ((k : ℕ) (d : Call) → k < length calls → IsCopy (get_or calls k d) (get_or copies k d)) → Copied calls copies
+copied_each calls copies l e = record {
+  requests = map_same (λ c. asked c.request) (λ c. asked c.request) calls copies l (λ k d p. (e k d p).request);
+  answers = map_same (λ c. c.answer) (λ _. None) calls copies l (λ k d p. (e k d p).answer);
+  earlier = map_same (λ c. c.earlier) (λ _. None) calls copies l (λ k d p. (e k d p).earlier);
+}

@@ -1,2 +1,1 @@
-pub mod Behind
 pub mod Copying

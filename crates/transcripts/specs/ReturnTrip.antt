@@ -2,7 +2,8 @@
 use Rattle.std.specs.Prelude.{ℕ, List}
 use Rattle.chaining.specs.declared.calls.Call.{Call}
 use Rattle.chaining.specs.Benches.{State}
-use Rattle.chaining.specs.Mirrors.{SameMap, Mirrored, GivenBack}
+use Rattle.ciphers.specs.Maps.{SameMap}
+use Rattle.chaining.specs.Mirrors.{Mirrored, GivenBack}
 use Rattle.xtea.specs.Xtea.{xtea}
 
 -- two benches whose ciphers have the map of XTEA ran over the calls, and gave everything back

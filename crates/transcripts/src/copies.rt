@@ -1,28 +1,20 @@
 // Copies of a session's calls.
-ghost use Rattle.std.specs.Prelude.{◌≡◌, IfOk};
-ghost use Rattle.chaining.specs.Sessions.{asked};
-ghost use Rattle.transcripts.specs.Copies.{Copied};
+ghost use Rattle.std.specs.Prelude.{IfOk};
+ghost use Rattle.transcripts.specs.Copies.{IsCopy, Copied};
 
-use chaining::{Call, Request};
+use chaining::Call;
 use std::alloc::{AllocError, Global};
 
-fn copied_request(heap: Global, request: &Request<Vec<u8>>) -> Result<Request<Vec<u8>>, AllocError>
-    ensures { IfOk result (λ q. asked q ≡ asked request.now) }
+// The same request, not yet answered.
+fn copy(call: &Call) -> Result<Call, AllocError>
+    ensures { IfOk result (IsCopy call.now) }
 {
-    match request {
-        Request::Pass(run) => Ok(Request::Pass(Vec::from_slice(heap, run.as_slice())?)),
-        Request::Turn => Ok(Request::Turn),
-        Request::Restart(start) => Ok(Request::Restart(Vec::from_slice(heap, start.as_slice())?)),
-    }
+    Ok(Call::new(call.request.clone()?))
 }
 
 // The same requests, not yet answered.
 pub fn copied(heap: Global, calls: &[Call]) -> Result<Vec<Call>, AllocError>
     ensures { IfOk result (λ v. Copied calls.now v.items) }
 {
-    let mut copies = Vec::new(heap);
-    for call in calls {
-        copies.push(Call::new(copied_request(heap, &call.request)?))?;
-    }
-    Ok(copies)
+    calls.iter().map(copy).try_collect(heap)
 }

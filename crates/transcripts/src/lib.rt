@@ -10,7 +10,6 @@ mod copies;
 mod hex_text;
 mod lines;
 mod return_trip;
-mod words;
 
 pub use comparing::same;
 pub use copies::copied;

@@ -1,6 +1,7 @@
 // A session on two benches over XTEA.
 ghost use Rattle.chaining.specs.Benches.{state_of};
-ghost use Rattle.chaining.specs.Mirrors.{SameMap, SessionLaw};
+ghost use Rattle.chaining.specs.Mirrors.{SessionLaw};
+ghost use Rattle.ciphers.specs.Maps.{SameMap};
 ghost use Rattle.xtea.specs.Sealing.{sealing};
 ghost use Rattle.xtea.specs.Xtea.{xtea};
 ghost use Rattle.transcripts.specs.ReturnTrip.{Returned};
@@ -15,21 +16,11 @@ pub fn full_xtea(key: &[u8; 16]) -> Xtea
     Xtea::new(key, Cycles::full())
 }
 
-// The same cipher twice.
-fn twice(key: &[u8; 16]) -> (Xtea, Xtea)
-    ensures first { SameMap (sealing result.0) (xtea key.now 32) }
-    ensures second { SameMap (sealing result.1) (xtea key.now 32) }
-    ensures alike { SameMap (sealing result.0) (sealing result.1) }
-{
-    (full_xtea(key), full_xtea(key))
-}
-
 // The first bench has the session, and the second, turned once, has it as the first left it. The calls hold afterwards
 // what they brought, with both answers.
 pub fn there_and_back(key: &[u8; 16], calls: &mut [Call]) -> (Bench<Xtea>, Bench<Xtea>)
     ensures law { SessionLaw }
     ensures returned { Returned key.now calls.old calls.new (state_of sealing result.0) (state_of sealing result.1) }
 {
-    let (first, second) = twice(key);
-    mirror(first, second, calls)
+    mirror(full_xtea(key), full_xtea(key), calls)
 }

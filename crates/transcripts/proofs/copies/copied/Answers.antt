@@ -1,14 +1,12 @@
 -- `copied` meets its contract. Assumes nothing.
-use Rattle.std.proofs.Common.{ap, ◌∙◌}
-use Rattle.chaining.specs.Sessions.{asked}
-use Rattle.transcripts.proofs.Copying.{copied_none, copied_more, copied_all}
+use Rattle.std.proofs.Common.{◌≡◌, ℕ, ◌<◌, length, get_or, IfOk, vec_items, rules}
+use Rattle.std.proofs.lemmas.Result.{IfOk-weaker}
+use Rattle.chaining.specs.declared.calls.Call.{Call}
+use Rattle.transcripts.specs.Copies.{IsCopy}
+use Rattle.transcripts.proofs.Copying.{copied_each}
 use Rattle.transcripts.proofs.copies.copied.Goals as goal
 
-pub loop-call-init : goal.loop-call-init
-loop-call-init c = copied_none _ c.new-copies.ensures.items
-
-pub loop-call-preserved : goal.loop-call-preserved
-loop-call-preserved c = copied_more c.args.calls.now _ _ _ c.call-item.result c.loop-call.call-index c.loop-call-test.true c.loop-call.invariant c.in_ok-push.ensures.items (ap asked c.new.ensures.request ∙ c.in_ok-copied_request.ensures ∙ ap (λ d. asked d.request) c.call-item.is) c.new.ensures.answer c.new.ensures.earlier
-
 pub returns : goal.returns
-returns c = copied_all _ _ c.loop-call.call-index c.loop-call-test.false c.loop-call.invariant
+returns c =
+    let each : IfOk c.try_collect.result (λ v. (length (vec_items v) ≡ length c.args.calls.now) × ((k : ℕ) (d : Call) → k < length c.args.calls.now → IsCopy (get_or c.args.calls.now k d) (get_or (vec_items v) k d))) = search rules in
+    IfOk-weaker c.try_collect.result _ _ (λ v e. copied_each c.args.calls.now (vec_items v) e.0 e.1) each
