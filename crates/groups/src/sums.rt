@@ -3,7 +3,7 @@ use crate::lawful::Group;
 use crate::words::Summed;
 use std::marker::PhantomData;
 
-#[derive(Clone, Copy)]
+#[derive(Clone, Copy, Default)]
 pub struct Sum<W: Summed>(PhantomData<W>);
 
 pub type Sum16 = Sum<u16>;

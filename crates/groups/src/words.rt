@@ -31,6 +31,7 @@ pub trait Summed: Word {
     ghost lawful: { Lawful Self.Word.fits ZERO summed negated };
 }
 
+// Each width says which numbers are its words; nothing else is in these two.
 impl Word for u16 {
     ghost fits = { λ x. x < 2 ^ 16 };
 }
@@ -39,7 +40,7 @@ impl Word for u32 {
     ghost fits = { λ x. x < 2 ^ 32 };
 }
 
-// One implementation for each width: it holds what the widths differ in, and no macro may write it.
+// One implementation for each width: it holds what the widths differ in. The gate takes none that a macro of ours writes.
 impl Summed for u16 {
     const ZERO: u16 = 0;
 

@@ -31,7 +31,7 @@ fn grown(value: u64, c: u8) -> Option<u64>
     Some(value * 16 + u64::from(digit(char::from(c))?))
 }
 
-// The number that at most sixteen digits write.
+// The number that at most sixteen digits write. A `for`, since `try_fold` asks for a closure that takes every number.
 fn number(digits: &[u8]) -> Option<u64>
     requires { length digits.now ≤ 16 }
     ensures { result ≡ number_of digits.now }

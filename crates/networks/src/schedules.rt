@@ -27,14 +27,13 @@ impl From<ArrayVec<u64, 64>> for Schedule {
     ghost from_gives = { λ words schedule. schedule ≡ words.items };
 
     fn from(words: ArrayVec<u64, 64>) -> Schedule {
-        // The call shows that the words fit.
-        let _count = words.len();
         Schedule { words }
     }
 }
 
 impl Schedule {
-    // The first `count` of the words, or all 64 where `count` is larger.
+    // The first `count` of the words, or all 64 where `count` is larger. The array is a whole table of 64 words, and the
+    // count says how much of it to take.
     pub fn first(count: usize, words: [u64; 64]) -> Schedule
         ensures { result ≡ take (min count 64) words }
     {

@@ -17,7 +17,8 @@ use std::io::Read;
 use transcripts::{Line, copied, full_xtea, read, there_and_back};
 use xtea::Xtea;
 
-// Prints each call of a session. There are three slices of them, since a bench is served a slice of calls.
+// Prints each call of a session. There are three slices of them, as brought and as two services left them, since a bench
+// is served a slice of calls.
 fn print_calls(
     rt: &HostRuntime,
     brought: &[Call],
@@ -37,6 +38,7 @@ fn print_calls(
     Ok(())
 }
 
+// A `match`, since an Option has no text of its own.
 fn print_bench(rt: &HostRuntime, name: &str, bench: &Bench<Xtea>) -> io::Result<()> {
     let direction = bench.direction();
     match bench.chain() {
@@ -57,7 +59,7 @@ fn read_line(rt: &HostRuntime, line: &[u8], calls: &mut Vec<Call>) -> anyhow::Re
     Ok(())
 }
 
-// Reads the calls of a session, up to an empty line.
+// Reads the calls of a session, up to an empty line. The handle and the lines stay apart, since clauses speak of the lines.
 #[tactic(auto, using(crate::proofs::Reading::reading))]
 fn read_calls(rt: &HostRuntime, lines: &mut Lines<'_>, calls: &mut Vec<Call>) -> anyhow::Result<()>
     ensures fewer { length lines.new ≤ length lines.old }

@@ -10,6 +10,7 @@ use std::io;
 use std::io::Read;
 use trials::Run;
 
+// A `match`, since a Result has no text of its own.
 fn print_verdict(rt: &HostRuntime, number: usize, verdict: &Verdict) -> io::Result<()> {
     match verdict {
         Ok(()) => println!(rt; "{number} ok"),

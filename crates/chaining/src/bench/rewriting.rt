@@ -7,6 +7,7 @@ use crate::bench::Bench;
 use crate::direction::Direction;
 use ciphers::Cipher;
 
+// Contracts name the direction and the map, since the definitions of a chain speak of no bench.
 impl<C: Cipher> Bench<C> {
     // What the cipher makes of a block after the chain block.
     fn chained(&self, chain: u64, block: u64) -> u64
