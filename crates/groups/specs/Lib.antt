@@ -1,2 +1,3 @@
 pub mod Laws
 pub mod Sums
+pub mod Xor

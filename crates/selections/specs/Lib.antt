@@ -1,0 +1,2 @@
+pub mod Permutations
+pub mod Selections
