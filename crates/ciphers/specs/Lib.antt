@@ -1,2 +1,3 @@
 pub mod Blocks
 pub mod Maps
+pub mod Permutations

@@ -13,3 +13,7 @@ Inverse f g = Inverses (λ b. b < 2 ^ 64) f g
 -- f and then g, or g and then f where the order is reversed
 abbrev pub composed : Bool → (ℕ → ℕ) → (ℕ → ℕ) → ℕ → ℕ
 composed reversed f g b = if reversed then f (g b) else g (f b)
+
+-- f, then g, then h
+abbrev pub in_turn : (ℕ → ℕ) → (ℕ → ℕ) → (ℕ → ℕ) → ℕ → ℕ
+in_turn f g h b = h (g (f b))

@@ -2,18 +2,24 @@
 //
 // Promises: `seal` answers the block that the cipher's map gives, and `turn` makes the map its inverse: the old map and
 // the new one undo each other, in either order, on every block. An implementation of `Undo` takes a sealing back without
-// turning, and `ways_back` shows that both ways agree. Every Feistel network over 32-bit words, the swap of halves and
-// every pair of ciphers are such ciphers; a pair is proved against the maps of its parts alone. No call refuses.
+// turning, and `ways_back` shows that both ways agree. Every Feistel network over 32-bit words, the swap of halves, every
+// permutation of bits, every pair of ciphers and every EDE of three are such ciphers; pairs and EDEs are proved against
+// the maps of their parts alone. An EDE seals with the first, the second's inverse and the third, and with three equal
+// maps as one of them does. No call refuses.
 #![tactic(auto)]
 
+mod ede;
 mod feistels;
 mod interface;
+mod permutations;
 mod sequence;
 mod swap;
 mod undoing;
 
+pub use ede::Ede;
 pub use interface::Cipher;
 pub use networks::WaysBack;
+pub use permutations::{BitPermutation, Permutation};
 pub use sequence::Pair;
 pub use swap::SwapHalves;
 pub use undoing::{Undo, ways_back};
