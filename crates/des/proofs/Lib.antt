@@ -1,0 +1,10 @@
+pub mod Ciphering
+pub mod Complement
+pub mod Deciphering
+pub mod Eighths
+pub mod Merged
+pub mod Ones
+pub mod Parts
+pub mod Rows
+pub mod Swaps
+pub mod Three

@@ -1,0 +1,9 @@
+pub mod Boxes
+pub mod Des
+pub mod Keys
+pub mod Merged
+pub mod Opposites
+pub mod Sealing
+pub mod Swaps
+pub mod Tables
+pub mod Triple

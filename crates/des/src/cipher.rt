@@ -1,0 +1,55 @@
+// DES as a cipher: the initial permutation, a Feistel network of sixteen rounds over xor, and the inverse permutation.
+ghost use Rattle.std.specs.Prelude.{◌≡◌, ℕ};
+ghost use Rattle.std.specs.Int.{from_be_bytes, w64};
+ghost use Rattle.ciphers.specs.Maps.{SameMap, Inverse};
+ghost use Rattle.des.specs.Des.{des, deciphered};
+ghost use Rattle.des.specs.Keys.{round_words, SameButEighths};
+ghost use Rattle.des.specs.Sealing.{sealing};
+
+use crate::initial::Initial;
+use crate::keys::key_schedule;
+use crate::rounding::DesRound;
+use ciphers::{BitPermutation, Cipher, Pair, Undo};
+use groups::Xor32;
+use networks::Feistel;
+
+#[derive(Drop)]
+pub struct Des {
+    layers: Pair<BitPermutation<Initial>, Pair<Feistel<Xor32, DesRound>, BitPermutation<Initial>>>,
+}
+
+impl Des {
+    #[tactic(auto, using(crate::proofs::Ciphering::sealed_new, crate::proofs::Deciphering::des_inverse, crate::proofs::Eighths::des_same))]
+    pub fn new(key: &[u8; 8]) -> Des
+        ensures words { result.layers.second.first.schedule ≡ round_words (from_be_bytes w64 key.now) }
+        ensures map { SameMap (sealing result) (des (from_be_bytes w64 key.now)) }
+        ensures eighths { (k : ℕ) → SameButEighths (from_be_bytes w64 key.now) k → (b : ℕ) → des (from_be_bytes w64 key.now) b ≡ des k b }
+        ensures inverse { Inverse (des (from_be_bytes w64 key.now)) (deciphered (from_be_bytes w64 key.now)) }
+    {
+        let rounds = Feistel::new(DesRound, key_schedule(key));
+        Des {
+            layers: Pair::new(
+                BitPermutation::new(),
+                Pair::new(rounds, BitPermutation::inverse()),
+            ),
+        }
+    }
+}
+
+impl Cipher for Des {
+    ghost map = { sealing };
+
+    fn seal(&self, block: u64) -> u64 {
+        self.layers.seal(block)
+    }
+
+    fn turn(&mut self) {
+        self.layers.turn();
+    }
+}
+
+impl Undo for Des {
+    fn undo(&self, block: u64) -> u64 {
+        self.layers.undo(block)
+    }
+}

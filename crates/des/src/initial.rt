@@ -1,0 +1,42 @@
+// The initial permutation IP, and the one that takes it back: five exchanges of bits each.
+ghost use Rattle.std.specs.Prelude.{◌≡◌, ◌<◌, refl};
+ghost use Rattle.des.specs.Swaps.{exchanged};
+ghost use Rattle.des.specs.Tables.{initial};
+
+use ciphers::Permutation;
+
+// The bits that a mask names and those some places above them exchanged: a delta swap.
+#[tactic(auto, unfolding(crate::specs::Swaps::exchanged))]
+fn exchange(block: u64, places: u32, mask: u64) -> u64
+    requires { places < 64 }
+    ensures { result ≡ exchanged places mask block }
+{
+    let differing = ((block >> places) ^ block) & mask;
+    block ^ differing ^ (differing << places)
+}
+
+pub struct Initial;
+
+impl Permutation for Initial {
+    ghost table = { initial };
+
+    ghost once = { record { whole = refl; places_only = refl; once = refl } };
+
+    #[tactic(auto, using(crate::proofs::Swaps::initial_exchanges))]
+    fn permuted(block: u64) -> u64 {
+        let nibbles = exchange(block, 36, 0x0F0F_0F0F);
+        let halves = exchange(nibbles, 48, 0xFFFF);
+        let pairs = exchange(halves, 30, 0xCCCC_CCCC);
+        let bytes = exchange(pairs, 24, 0xFF00_FF00);
+        exchange(bytes, 33, 0x5555_5555)
+    }
+
+    #[tactic(auto, using(crate::proofs::Swaps::inverse_exchanges))]
+    fn restored(block: u64) -> u64 {
+        let bits = exchange(block, 33, 0x5555_5555);
+        let bytes = exchange(bits, 24, 0xFF00_FF00);
+        let pairs = exchange(bytes, 30, 0xCCCC_CCCC);
+        let halves = exchange(pairs, 48, 0xFFFF);
+        exchange(halves, 36, 0x0F0F_0F0F)
+    }
+}

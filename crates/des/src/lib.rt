@@ -1,0 +1,26 @@
+// DES and triple DES.
+//
+// Promises: the map of `Des::new` is DES as FIPS 46-3 has it, for every key of eight bytes; its round words are the
+// standard's, each eighth bit of the key is ignored, and deciphering is the inverse of enciphering. `ede2` and `ede3` are
+// triple DES under two and three keys. Under opposite keys, opposite texts are sealed to opposite blocks (`seal_both`). An
+// S-box gives four bits, and its row holds each number of four bits once; the cipher itself looks up SP-boxes. No call
+// refuses. DES is built as a permutation, a Feistel network over xor and the inverse permutation, so turning and undoing
+// need no proof of their own.
+#![tactic(auto)]
+
+mod boxes;
+mod cipher;
+mod initial;
+mod keys;
+mod opposites;
+mod rounding;
+mod tables;
+mod triple;
+mod values;
+
+pub use boxes::s_box;
+pub use cipher::Des;
+pub use opposites::{Sealed, seal_both};
+pub use rounding::DesRound;
+pub use triple::{TripleDes, ede2, ede3};
+pub use values::{s1_of_011011, worked_example};
