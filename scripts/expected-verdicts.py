@@ -6,22 +6,33 @@ It shares no code with the workbench.
 import re
 import sys
 
-from xtea_reading import seal
+import des_reading
+import xtea_reading
+
+
+def xtea(cycles):
+    return 16, lambda key, text: xtea_reading.seal(key, text, cycles)
+
+
+# Of each description, how many bytes its key has and what seals.
+CIPHERS = {
+    b"des": (8, des_reading.seal),
+    b"ede2": (16, des_reading.seal_ede),
+    b"ede3": (24, des_reading.seal_ede),
+    b"xtea": xtea(32),
+}
+CIPHERS.update((b"xtea:%d" % cycles, xtea(cycles)) for cycles in range(1, 33))
 
 
 def verdict(line):
     fields = line.split(b";")
-    if len(fields) != 4:
+    if len(fields) != 4 or fields[0] not in CIPHERS:
         return "unreadable"
     description, key, text, sealed = fields
-    named = re.fullmatch(rb"xtea(?::([1-9][0-9]?))?", description)
-    hexadecimal = [re.fullmatch(rb"[0-9A-Fa-f]{%d}" % n, f) for f, n in ((key, 32), (text, 16), (sealed, 16))]
-    if not named or not all(hexadecimal):
+    length, seal = CIPHERS[description]
+    if not all(re.fullmatch(rb"[0-9A-Fa-f]{%d}" % n, f) for f, n in ((key, 2 * length), (text, 16), (sealed, 16))):
         return "unreadable"
-    cycles = int(named.group(1) or 32)
-    if cycles > 32:
-        return "unreadable"
-    got = seal(bytes.fromhex(key.decode()), int(text, 16), cycles)
+    got = seal(bytes.fromhex(key.decode()), int(text, 16))
     return "ok" if got == int(sealed, 16) else "differs %016X" % got
 
 

@@ -1,6 +1,10 @@
 -- The descriptions that are understood. Assumes nothing.
-use Rattle.std.specs.Prelude.{ℕ, ◌+◌, ◌-◌, ◌*◌, Bool, ◌&&◌, List, [], ◌∷◌, Some, None, Option, ◌==◌, if◌then◌else◌}
+use Rattle.std.specs.Prelude.{ℕ, ◌+◌, ◌-◌, ◌*◌, Bool, ◌&&◌, List, [], ◌∷◌, Some, None, Option, codes, ◌==◌, if◌then◌else◌}
+use Rattle.std.specs.Option.{option_map}
+use Rattle.std.specs.Str.{bytes_eq}
 use Rattle.known_answers.specs.Hex.{among}
+use Rattle.trials.specs.declared.descriptions.Family.TheVariants.{Xtea, Des, Ede2, Ede3}
+use Rattle.trials.specs.declared.descriptions.Family.{Family}
 
 -- the number that one or two decimal digits write, the first of them not 0
 abbrev pub count_of : List ℕ → Option ℕ
@@ -28,3 +32,11 @@ cycles_of (x ∷ t ∷ e ∷ []) = None
 cycles_of (x ∷ t ∷ e ∷ a ∷ []) = if is_xtea x t e a then Some 32 else None
 cycles_of (x ∷ t ∷ e ∷ a ∷ colon ∷ digits) =
     if is_xtea x t e a && colon == 58 then within_cycles (count_of digits) else None
+
+-- the family that a description names
+abbrev pub family_of : List ℕ → Option Family
+family_of description =
+    if bytes_eq description (codes "des") then Some Des
+    else if bytes_eq description (codes "ede2") then Some Ede2
+    else if bytes_eq description (codes "ede3") then Some Ede3
+    else option_map (λ c. Xtea c) (cycles_of description)

@@ -1,8 +1,19 @@
-// The descriptions that are understood: `xtea`, and `xtea:` with a number of cycles.
+// The descriptions that are understood: `xtea`, `xtea:` with a number of cycles, `des`, `ede2` and `ede3`.
 ghost use Rattle.std.specs.Prelude.{◌≡◌};
-ghost use Rattle.trials.specs.Descriptions.{count_of, cycles_of};
+ghost use Rattle.trials.specs.Descriptions.{count_of, cycles_of, family_of};
 
 use xtea::Cycles;
+
+// What a description names.
+#[derive(Clone, Copy)]
+pub enum Family {
+    Xtea(Cycles),
+    Des,
+    // Triple DES with two keys.
+    Ede2,
+    // Triple DES with three keys.
+    Ede3,
+}
 
 // The number that one or two digits write, the first of them not 0.
 fn count(digits: &[u8]) -> Option<usize>
@@ -17,13 +28,25 @@ fn count(digits: &[u8]) -> Option<usize>
     }
 }
 
-// The cycles that a description asks for.
-pub fn cycles_named(description: &[u8]) -> Option<Cycles>
+// The cycles of XTEA that a description asks for.
+fn cycles_named(description: &[u8]) -> Option<Cycles>
     ensures { result ≡ cycles_of description.now }
 {
     match description.strip_prefix(b"xtea")? {
         [] => Some(Cycles::full()),
         [b':', digits @ ..] => Cycles::new(count(digits)?),
         _ => None,
+    }
+}
+
+// The family that a description names.
+pub fn named(description: &[u8]) -> Option<Family>
+    ensures { result ≡ family_of description.now }
+{
+    match description {
+        b"des" => Some(Family::Des),
+        b"ede2" => Some(Family::Ede2),
+        b"ede3" => Some(Family::Ede3),
+        _ => cycles_named(description).map(Family::Xtea),
     }
 }
