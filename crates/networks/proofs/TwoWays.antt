@@ -1,38 +1,23 @@
 -- Both ways back of a Feistel network agree, and undo the run. Assumes nothing.
 use Rattle.std.proofs.Common.{◌≡◌, ℕ, true, false, not, List, [], ◌∷◌, reverse, sym, refl, ap, ◌∙◌, ap₂, if◌then◌else◌}
 use Rattle.std.proofs.Math.Bool.{not-not}
-use Rattle.std.proofs.lemmas.Grind.{reverse_onto}
 use Rattle.std.proofs.lemmas.List.{reverse-reverse}
-use Rattle.std.proofs.lemmas.List.Sums.{fold_push}
 use Rattle.std.specs.List.{fold}
 use Rattle.groups.specs.Laws.{Lawful}
+use Rattle.groups.proofs.Cancelling.{inverse_twice, taken_back}
 use Rattle.networks.specs.declared.pairs.Halves.{Halves}
 use Rattle.networks.specs.Inverses.{Inverses}
 use Rattle.networks.specs.Halves.{swapped, Words}
 use Rattle.networks.specs.Rounds.{Network, applied, round, rounds, unround, unrounds, ran, unran, turned}
-
--- the round that comes first is taken back last
-unrounds-cons : {W : Type 0} (N : Network W) (k : ℕ) (ks : List ℕ) (h : Halves W) → unrounds N (k ∷ ks) h ≡ unround N k (unrounds N ks h)
-unrounds-cons N k ks h = ap (fold (λ s k. unround N k s) h) (reverse_onto ks k []) ∙ fold_push (λ s k. unround N k s) h (reverse ks) k
+use Rattle.networks.proofs.Folds.{fold_reverse_cons}
 
 -- over a lawful group, and a round function whose values are words
 module _ {W : Type 0} {fits : W → Type 0} {neutral : W} (N : Network W) (laws : Lawful fits neutral N.joined N.inverted) (values : (half : W) (word : ℕ) → fits (N.function half word)) where
-  -- a word is the inverse of its inverse
-  double_inverse : (x : W) → fits x → N.inverted (N.inverted x) ≡ x
-  double_inverse x p =
-      let once = laws.inverse_fits x p in
-      let twice = laws.inverse_fits (N.inverted x) once in
-      sym (laws.neutral_right _ twice)
-      ∙ ap (N.joined (N.inverted (N.inverted x))) (sym (laws.inverse_left x p))
-      ∙ sym (laws.associative _ _ _ twice once p)
-      ∙ ap (λ y. N.joined y x) (laws.inverse_left _ once)
-      ∙ laws.neutral_left x p
-
   -- the turned network applies the inverse of what the network applies
   opposed : (a : W) (k : ℕ) → N.inverted (applied N a k) ≡ applied (turned N) a k
   opposed a k =
       elim N.inverting as (λ b. N.inverted (if b then N.inverted (N.function a k) else N.function a k) ≡ (if not b then N.inverted (N.function a k) else N.function a k))
-      [ true ↦ double_inverse _ (values a k) | false ↦ refl ]
+      [ true ↦ inverse_twice laws _ (values a k) | false ↦ refl ]
 
   -- one undone round, and one round of the turned network with the halves swapped
   step : (k : ℕ) (h : Halves W) → unround N k (swapped h) ≡ swapped (round (turned N) k h)
@@ -52,18 +37,12 @@ module _ {W : Type 0} {fits : W → Type 0} {neutral : W} (N : Network W) (laws 
 
   -- a round and its undoing
   unround-round : (k : ℕ) (h : Halves W) → fits h.left → unround N k (round N k h) ≡ h
-  unround-round k h p =
-      let x = applied N h.right k in
-      let q = applied_fits h.right k in
-      ap (λ l. record { left = l; right = h.right })
-      (laws.associative h.left x (N.inverted x) p q (laws.inverse_fits x q)
-      ∙ ap (N.joined h.left) (laws.inverse_right x q)
-      ∙ laws.neutral_right h.left p)
+  unround-round k h p = ap (λ l. record { left = l; right = h.right }) (taken_back laws h.left (applied N h.right k) p (applied_fits h.right k))
 
   unrounds-rounds : (ks : List ℕ) (h : Halves W) → Words fits h → unrounds N ks (rounds N ks h) ≡ h
   unrounds-rounds [] h p = refl
   unrounds-rounds (k ∷ ks) h p =
-      unrounds-cons N k ks _
+      fold_reverse_cons (λ s k. unround N k s) k ks _
       ∙ ap (unround N k) (unrounds-rounds ks (round N k h) (p.1, laws.join_fits _ _ p.0 (applied_fits h.right k)))
       ∙ unround-round k h p.0
 
