@@ -1,0 +1,3 @@
+pub mod Only
+pub mod Rules
+pub mod Squarings
