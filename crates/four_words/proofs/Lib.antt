@@ -1,0 +1,7 @@
+pub mod Agreement
+pub mod Lists
+pub mod Progress
+pub mod Splitting
+pub mod Turned
+pub mod Twice
+pub mod Undoing

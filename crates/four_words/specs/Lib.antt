@@ -1,0 +1,6 @@
+pub mod Joining
+pub mod Keying
+pub mod Networks
+pub mod Passing
+pub mod Quarters
+pub mod Turning

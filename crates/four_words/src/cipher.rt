@@ -1,0 +1,44 @@
+// Every four-word network is a cipher.
+ghost use Rattle.std.specs.Prelude.{◌≡◌};
+ghost use Rattle.ciphers.specs.Maps.{Inverse};
+ghost use Rattle.four_words.specs.Keying.{KeyFits};
+ghost use Rattle.four_words.specs.Networks.{network};
+ghost use Rattle.four_words.specs.Passing.{four_word, turned, unran};
+ghost use Rattle.four_words.specs.Quarters.{block_of, words_of};
+
+use crate::boxes::MixingBox;
+use crate::network::FourWord;
+use ciphers::{Cipher, Undo};
+use groups::Group;
+
+impl<O: Group<Word = u16>, I: Group<Word = u16>, B: MixingBox> Cipher for FourWord<O, I, B> {
+    ghost map = { λ n. four_word (network O.Group I.Group B.MixingBox n) };
+
+    fn seal(&self, block: u64) -> u64 {
+        self.run(block.into()).into()
+    }
+
+    #[tactic(auto, using(crate::proofs::Splitting::inverse_blocks))]
+    fn turn(&mut self)
+        ensures inverse { Inverse (four_word (network O.Group I.Group B.MixingBox self.old)) (four_word (network O.Group I.Group B.MixingBox self.new)) }
+        ensures network { network O.Group I.Group B.MixingBox self.new ≡ turned (network O.Group I.Group B.MixingBox self.old) }
+    {
+        self.turn();
+    }
+}
+
+impl<O: Group<Word = u16>, I: Group<Word = u16>, B: MixingBox> FourWord<O, I, B> {
+    // The rounds of a block undone.
+    fn undone_block(&self, block: u64) -> u64
+        ensures value { result ≡ block_of (unran (network O.Group I.Group B.MixingBox self.now) (words_of block)) }
+        ensures fits { KeyFits self.now.key }
+    {
+        self.undone(block.into()).into()
+    }
+}
+
+impl<O: Group<Word = u16>, I: Group<Word = u16>, B: MixingBox> Undo for FourWord<O, I, B> {
+    fn undo(&self, block: u64) -> u64 {
+        self.undone_block(block)
+    }
+}

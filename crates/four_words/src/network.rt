@@ -1,0 +1,161 @@
+// Four-word networks over any two groups and mixing box.
+ghost use Rattle.std.specs.Prelude.{◌≡◌};
+ghost use Rattle.four_words.specs.Joining.{both};
+ghost use Rattle.four_words.specs.Keying.{KeyFits};
+ghost use Rattle.four_words.specs.Networks.{network};
+ghost use Rattle.four_words.specs.Passing.{added, mixed, ran, round, turned, unran, unround};
+ghost use Rattle.four_words.specs.Quarters.{Fit, exchanged};
+ghost use Rattle.four_words.specs.Turning.{TurnedWords};
+ghost use Rattle.networks.specs.Inverses.{Inverses};
+
+use crate::boxes::MixingBox;
+use crate::joins::{inverses, join};
+use crate::keys::KeyWords;
+use crate::words::{BoxWords, Mixed, RoundWords, Words};
+use groups::Group;
+use networks::WaysBack;
+use std::marker::PhantomData;
+
+// An outer and an inner group, a mixing box, and the words of the rounds (the structure of Lai and Massey).
+// It has no model: a model's value can hold no function, and a network's does.
+#[derive(Drop)]
+pub struct FourWord<O: Group<Word = u16>, I: Group<Word = u16>, B: MixingBox> {
+    mixing: B,
+    key: KeyWords,
+    outer: PhantomData<O>,
+    inner: PhantomData<I>,
+}
+
+// t goes to words 1 and 3, s to words 2 and 4.
+fn add(words: Words, mixed: Mixed) -> Words
+    ensures { result ≡ added words mixed }
+{
+    Words {
+        first: words.first ^ mixed.t,
+        second: words.second ^ mixed.s,
+        third: words.third ^ mixed.t,
+        fourth: words.fourth ^ mixed.s,
+    }
+}
+
+impl<O: Group<Word = u16>, I: Group<Word = u16>, B: MixingBox> FourWord<O, I, B> {
+    pub fn new(mixing: B, key: KeyWords) -> Self
+        ensures mixing { result.mixing ≡ mixing }
+        ensures key { result.key ≡ key }
+    {
+        FourWord {
+            mixing,
+            key,
+            outer: PhantomData,
+            inner: PhantomData,
+        }
+    }
+
+    // The words of the rounds.
+    pub fn key(&self) -> &KeyWords
+        ensures { result.now ≡ self.now.key }
+    {
+        &self.key
+    }
+
+    // The box is called with word 1 xor word 3 and word 2 xor word 4.
+    fn mix(&self, with: BoxWords, words: Words) -> Words
+        ensures { result ≡ mixed (network O.Group I.Group B.MixingBox self.now) with words }
+    {
+        let p = words.first ^ words.third;
+        let q = words.second ^ words.fourth;
+        add(words, self.mixing.mix(p, q, with))
+    }
+
+    fn round(&self, with: &RoundWords, words: Words) -> Words
+        ensures { result ≡ round (network O.Group I.Group B.MixingBox self.now) with.now words }
+    {
+        self.mix(with.mixing, join::<O, I>(words, with.joins))
+    }
+
+    fn unround(&self, with: &RoundWords, words: Words) -> Words
+        ensures { result ≡ unround (network O.Group I.Group B.MixingBox self.now) with.now words }
+    {
+        join::<O, I>(self.mix(with.mixing, words), inverses::<O, I>(with.joins))
+    }
+
+    // The rounds, between which words 2 and 3 change places, and then the closing words. A part of its own, as are
+    // `undone` and `reverse`, so that a wrong step is refused where it is taken, and not where a proof cites it.
+    fn ran(&self, words: Words) -> Words
+        ensures value { result ≡ ran (network O.Group I.Group B.MixingBox self.now) words }
+        ensures fits { KeyFits self.now.key }
+    {
+        let first = self.round(self.key.first(), words);
+        let passed = self
+            .key
+            .others()
+            .iter()
+            .fold(first, |state, with| self.round(with, state.exchange()));
+        join::<O, I>(passed, *self.key.closing())
+    }
+
+    // The closing words taken back, and then the rounds, the last one first.
+    pub(crate) fn undone(&self, words: Words) -> Words
+        ensures value { result ≡ unran (network O.Group I.Group B.MixingBox self.now) words }
+        ensures fits { KeyFits self.now.key }
+    {
+        let last = join::<O, I>(words, inverses::<O, I>(*self.key.closing()));
+        let first = self
+            .key
+            .others()
+            .iter()
+            .rev()
+            .fold(last, |state, with| self.unround(with, state).exchange());
+        self.unround(self.key.first(), first)
+    }
+
+    // What the network makes of four words. The turned network takes it back.
+    pub fn run(&self, words: Words) -> Words
+        ensures value { result ≡ ran (network O.Group I.Group B.MixingBox self.now) words }
+        ensures back { Fit words → ran (turned (network O.Group I.Group B.MixingBox self.now)) result ≡ words }
+    {
+        self.ran(words)
+    }
+
+    // The way back that undoes the rounds. It makes of any words what the turned network makes of them.
+    pub fn undo(&self, words: Words) -> Words
+        ensures value { result ≡ unran (network O.Group I.Group B.MixingBox self.now) words }
+        ensures turned { result ≡ ran (turned (network O.Group I.Group B.MixingBox self.now)) words }
+        ensures back { Fit words → ran (network O.Group I.Group B.MixingBox self.now) result ≡ words }
+    {
+        self.undone(words)
+    }
+
+    // The words of the rounds become those of the turned network.
+    fn reverse(&mut self)
+        ensures value { network O.Group I.Group B.MixingBox self.new ≡ turned (network O.Group I.Group B.MixingBox self.old) }
+        ensures fits { KeyFits self.old.key }
+    {
+        self.key = self.key.turned::<O, I>();
+    }
+
+    // Becomes the inverse network, in place.
+    pub fn turn(&mut self)
+        ensures network { network O.Group I.Group B.MixingBox self.new ≡ turned (network O.Group I.Group B.MixingBox self.old) }
+        ensures words { TurnedWords (both O.Group I.Group) self.old.key self.new.key }
+        ensures again { turned (network O.Group I.Group B.MixingBox self.new) ≡ network O.Group I.Group B.MixingBox self.old }
+        ensures inverse { Inverses Fit (ran (network O.Group I.Group B.MixingBox self.old)) (ran (network O.Group I.Group B.MixingBox self.new)) }
+    {
+        self.reverse();
+    }
+
+    // Both ways back of any four words, the rounds undone and the turned network run: they agree.
+    // The network is as it was afterwards.
+    pub fn ways_back(&mut self, words: Words) -> WaysBack<Words>
+        ensures undone { result.undone ≡ unran (network O.Group I.Group B.MixingBox self.old) words }
+        ensures turned { result.turned ≡ ran (turned (network O.Group I.Group B.MixingBox self.old)) words }
+        ensures agree { result.undone ≡ result.turned }
+        ensures same { network O.Group I.Group B.MixingBox self.new ≡ network O.Group I.Group B.MixingBox self.old }
+    {
+        let undone = self.undo(words);
+        self.turn();
+        let turned = self.run(words);
+        self.turn();
+        WaysBack { undone, turned }
+    }
+}
