@@ -1,0 +1,4 @@
+pub mod Idea
+pub mod Keys
+pub mod Mixing
+pub mod Sealing

@@ -1,0 +1,65 @@
+// IDEA as a cipher: a four-word network over the product modulo 65,537 and the sum modulo 2^16.
+ghost use Rattle.std.specs.Prelude.{◌≡◌, ◌≤◌};
+ghost use Rattle.std.specs.Int.{from_be_bytes, w128};
+ghost use Rattle.ciphers.specs.Maps.{Inverse, SameMap};
+ghost use Rattle.four_words.specs.Keying.{key_of};
+ghost use Rattle.four_words.specs.Turning.{turned_key};
+ghost use Rattle.idea.specs.Idea.{idea};
+ghost use Rattle.idea.specs.Keys.{key_words};
+ghost use Rattle.idea.specs.Sealing.{groups, sealing};
+
+use crate::expansion::key_schedule;
+use crate::mixing::IdeaBox;
+use ciphers::{Cipher, Undo};
+use four_words::{FourWord, KeyWords, Rounds};
+use groups::Sum16;
+use products::Product16;
+
+pub(crate) type IdeaNetwork = FourWord<Product16, Sum16, IdeaBox>;
+
+#[derive(Drop)]
+pub struct Idea {
+    network: IdeaNetwork,
+}
+
+// The network of a key. It tells too which numbers of rounds there are, which its caller's proof needs.
+pub(crate) fn network(key: &[u8; 16], rounds: Rounds) -> IdeaNetwork
+    ensures key { result.key ≡ key_of rounds (key_words (from_be_bytes w128 key.now)) }
+    ensures some { 1 ≤ rounds }
+    ensures few { rounds ≤ 8 }
+{
+    FourWord::new(IdeaBox, KeyWords::new(rounds, &key_schedule(key)))
+}
+
+impl Idea {
+    #[tactic(auto, using(crate::proofs::Passes::sealed_new))]
+    pub fn new(key: &[u8; 16], rounds: Rounds) -> Idea
+        ensures words { result.network.key ≡ key_of rounds (key_words (from_be_bytes w128 key.now)) }
+        ensures map { SameMap (sealing result) (idea (from_be_bytes w128 key.now) rounds) }
+    {
+        Idea {
+            network: network(key, rounds),
+        }
+    }
+}
+
+impl Cipher for Idea {
+    ghost map = { sealing };
+
+    fn seal(&self, block: u64) -> u64 {
+        self.network.seal(block)
+    }
+
+    fn turn(&mut self)
+        ensures inverse { Inverse (sealing self.old) (sealing self.new) }
+        ensures words { self.new.network.key ≡ turned_key groups self.old.network.key }
+    {
+        Cipher::turn(&mut self.network);
+    }
+}
+
+impl Undo for Idea {
+    fn undo(&self, block: u64) -> u64 {
+        Undo::undo(&self.network, block)
+    }
+}

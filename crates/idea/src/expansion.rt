@@ -1,0 +1,33 @@
+// IDEA's key schedule.
+ghost use Rattle.std.specs.Prelude.{◌≡◌, ◌<◌};
+ghost use Rattle.std.specs.Int.{from_be_bytes, w128};
+ghost use Rattle.idea.specs.Keys.{key_word, key_words};
+
+// A word of the key: there are eight to each 25 bits that it rotates left.
+#[tactic(auto, unfolding(crate::specs::Keys::key_word))]
+fn key_word(key: u128, i: usize) -> u16
+    requires within { i < 52 }
+    ensures { result ≡ key_word key i }
+{
+    let rotated = key.rotate_left(25 * (i / 8) as u32);
+    ((rotated >> (112 - 16 * (i % 8))) % 0x1_0000) as u16
+}
+
+// The words of eight rounds and the closing words.
+#[tactic(auto, using(crate::proofs::Filling::filled_more, crate::proofs::Filling::filled_all))]
+fn key_words(key: u128) -> [u16; 52]
+    ensures { result ≡ key_words key }
+{
+    let mut words = [0; 52];
+    for i in 0..52 {
+        words[i] = key_word(key, i);
+    }
+    words
+}
+
+// The words of a key of sixteen bytes, the first one most significant.
+pub(crate) fn key_schedule(key: &[u8; 16]) -> [u16; 52]
+    ensures { result ≡ key_words (from_be_bytes w128 key.now) }
+{
+    key_words(u128::from_be_bytes(*key))
+}
