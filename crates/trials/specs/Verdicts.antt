@@ -1,19 +1,21 @@
 -- What is said of a known answer. Assumes nothing.
 use Rattle.std.specs.Prelude.{ℕ, List, length, Some, None, Option, Ok, Err, ◌==◌, if◌then◌else◌}
-use Rattle.std.specs.Int.{from_be_bytes, w64}
+use Rattle.std.specs.Int.{from_be_bytes, w64, w128}
 use Rattle.xtea.specs.Xtea.{xtea}
 use Rattle.des.specs.Des.{des}
 use Rattle.des.specs.Triple.{tdea, key_at}
+use Rattle.idea.specs.Idea.{idea}
 use Rattle.known_answers.specs.declared.tally.Fault.TheVariants.{Differs, Unreadable}
 use Rattle.known_answers.specs.Tally.{Verdict}
 use Rattle.known_answers.specs.Vector.{Reading, reading_of}
-use Rattle.trials.specs.declared.descriptions.Family.TheVariants.{Xtea, Des, Ede2, Ede3}
+use Rattle.trials.specs.declared.descriptions.Family.TheVariants.{Xtea, Idea, Des, Ede2, Ede3}
 use Rattle.trials.specs.declared.descriptions.Family.{Family}
 use Rattle.trials.specs.Descriptions.{family_of}
 
 -- how many bytes the keys of a family have
 abbrev pub key_length : Family → ℕ
 key_length (Xtea c) = 16
+key_length (Idea n) = 16
 key_length Des = 8
 key_length Ede2 = 16
 key_length Ede3 = 24
@@ -21,6 +23,7 @@ key_length Ede3 = 24
 -- the block to which a family seals a text under a key
 abbrev pub sealed_by : Family → List ℕ → ℕ → ℕ
 sealed_by (Xtea c) key text = xtea key c text
+sealed_by (Idea n) key text = idea (from_be_bytes w128 key) n text
 sealed_by Des key text = des (from_be_bytes w64 key) text
 sealed_by Ede2 key text = tdea (key_at key 0) (key_at key 1) (key_at key 0) text
 sealed_by Ede3 key text = tdea (key_at key 0) (key_at key 1) (key_at key 2) text

@@ -1,13 +1,15 @@
-// The descriptions that are understood: `xtea`, `xtea:` with a number of cycles, `des`, `ede2` and `ede3`.
+// The descriptions that are understood: `xtea` and `idea`, each alone or with a colon and a count, `des`, `ede2` and `ede3`.
 ghost use Rattle.std.specs.Prelude.{◌≡◌};
-ghost use Rattle.trials.specs.Descriptions.{count_of, cycles_of, family_of};
+ghost use Rattle.trials.specs.Descriptions.{count_of, cycles_of, family_of, rounds_of};
 
+use idea::Rounds;
 use xtea::Cycles;
 
 // What a description names.
 #[derive(Clone, Copy)]
 pub enum Family {
     Xtea(Cycles),
+    Idea(Rounds),
     Des,
     // Triple DES with two keys.
     Ede2,
@@ -39,6 +41,17 @@ fn cycles_named(description: &[u8]) -> Option<Cycles>
     }
 }
 
+// The rounds of IDEA that a description asks for.
+fn rounds_named(description: &[u8]) -> Option<Rounds>
+    ensures { result ≡ rounds_of description.now }
+{
+    match description.strip_prefix(b"idea")? {
+        [] => Some(Rounds::full()),
+        [b':', digits @ ..] => Rounds::new(count(digits)?),
+        _ => None,
+    }
+}
+
 // The family that a description names.
 pub fn named(description: &[u8]) -> Option<Family>
     ensures { result ≡ family_of description.now }
@@ -47,6 +60,9 @@ pub fn named(description: &[u8]) -> Option<Family>
         b"des" => Some(Family::Des),
         b"ede2" => Some(Family::Ede2),
         b"ede3" => Some(Family::Ede3),
-        _ => cycles_named(description).map(Family::Xtea),
+        _ => match cycles_named(description) {
+            Some(cycles) => Some(Family::Xtea(cycles)),
+            None => rounds_named(description).map(Family::Idea),
+        },
     }
 }

@@ -6,6 +6,7 @@ ghost use Rattle.trials.specs.Verdicts.{tried_on, tried_with, verdict_of};
 use crate::descriptions::{Family, named};
 use crate::judging::judge;
 use des::{Des, ede2, ede3};
+use idea::{Idea, Rounds};
 use known_answers::keys::KeyBytes;
 use known_answers::tally::{Fault, Verdict};
 use known_answers::vector::{Vector, read};
@@ -25,6 +26,13 @@ fn attempt_xtea(vector: &Vector<'_>, cycles: Cycles) -> Verdict
 {
     let key = sized(&vector.key)?;
     judge(&mut Xtea::new(key, cycles), vector.text, vector.sealed)
+}
+
+fn attempt_idea(vector: &Vector<'_>, rounds: Rounds) -> Verdict
+    ensures { result ≡ tried_with (Family.Idea rounds) (contents vector.now) }
+{
+    let key = sized(&vector.key)?;
+    judge(&mut Idea::new(key, rounds), vector.text, vector.sealed)
 }
 
 fn attempt_des(vector: &Vector<'_>) -> Verdict
@@ -54,6 +62,7 @@ fn attempt(vector: &Vector<'_>) -> Verdict
 {
     match named(vector.description).ok_or(Fault::Unreadable)? {
         Family::Xtea(cycles) => attempt_xtea(vector, cycles),
+        Family::Idea(rounds) => attempt_idea(vector, rounds),
         Family::Des => attempt_des(vector),
         Family::Ede2 => attempt_ede2(vector),
         Family::Ede3 => attempt_ede3(vector),

@@ -1,8 +1,8 @@
 // Known answers tried on their ciphers.
 //
 // Promises: `named` gives every description the family of ciphers that its definition does. `examine` gives every line
-// the verdict that the definitions of its reading, of its family's keys and of XTEA, DES and triple DES decide, and a
-// `Run` gives the lines of an input their verdicts in order and counts each. `judge` says `Ok` only of a text that is the
+// the verdict that the definitions of its reading, of its family's keys and of XTEA, DES, triple DES and IDEA decide, and
+// a `Run` gives the lines of an input their verdicts in order and counts each. `judge` says `Ok` only of a text that is the
 // one block sealed to the known one. Nothing refuses, and nothing asks for memory.
 #![tactic(auto)]
 
