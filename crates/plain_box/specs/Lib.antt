@@ -1,0 +1,3 @@
+pub mod Naming
+pub mod Plainest
+pub mod Verdicts
