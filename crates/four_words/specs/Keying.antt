@@ -23,11 +23,11 @@ round_at ws r = record { joins = four_at ws (6 * r); mixing = record { z5 = slic
 abbrev pub key_of : ℕ → List ℕ → Key
 key_of n ws = record { first = round_at ws 0; others = map (round_at ws) (range_with_len 1 (n - 1)); closing = four_at ws (6 * n) }
 
--- of some rounds
+-- the words that each of some rounds joins are words of 16 bits
 unfoldable pub AllFit : List RoundWords → Type 0
 AllFit [] = Unit
 AllFit (k ∷ ks) = Fit k.joins × AllFit ks
 
--- the words that are joined are words of 16 bits
+-- so are those of the first round, of the others, and the closing words
 abbrev pub KeyFits : Key → Type 0
 KeyFits k = Fit k.first.joins × AllFit k.others × Fit k.closing

@@ -20,7 +20,7 @@ unfoldable pub preceded : Groups → BoxWords → List RoundWords → List Round
 preceded G m [] = []
 preceded G m (k ∷ ks) = turned_round G m k ∷ preceded G k.mixing ks
 
--- the inverses of the closing words in order come first, then the rounds last to first; the closing words are the inverses of z1 to z4 of round 1
+-- round 1 has the inverses of the closing words in order, the others follow last to first, and the closing words are the inverses of z1 to z4 of round 1
 abbrev pub turned_key : Groups → Key → Key
 turned_key G k = record {
   first = record { joins = inverses G k.closing; mixing = last_mixing k.first.mixing k.others };
