@@ -1,7 +1,7 @@
 -- What each refusal is told as. Assumes nothing.
 use Rattle.std.specs.Prelude.{ℕ, List, ◌++◌, codes, decimal}
 use Rattle.refusals.specs.declared.notices.Notice.{Notice}
-use Rattle.refusals.specs.declared.reasons.Refusal.TheVariants.{StartLength, RunTooLong, RunNotWhole, NoChainBlock}
+use Rattle.refusals.specs.declared.reasons.Refusal.TheVariants.{DescriptionTooLong, NoWord, UnknownName, BadCount, FifthWord, KeyLength, StartLength, RunTooLong, RunNotWhole, NoChainBlock}
 use Rattle.refusals.specs.declared.reasons.Refusal.{Refusal}
 
 -- a number, and a place in what the caller brought
@@ -10,6 +10,12 @@ numbered n p = record { number = n; place = p }
 
 -- the number and the place of each refusal
 abbrev pub notice_of : Refusal → Notice
+notice_of DescriptionTooLong = numbered 1 64
+notice_of (NoWord length) = numbered 2 length
+notice_of (UnknownName place) = numbered 3 place
+notice_of (BadCount place) = numbered 4 place
+notice_of (FifthWord place) = numbered 5 place
+notice_of KeyLength = numbered 6 0
 notice_of StartLength = numbered 7 0
 notice_of RunTooLong = numbered 8 0
 notice_of RunNotWhole = numbered 9 0

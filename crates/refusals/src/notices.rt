@@ -17,13 +17,19 @@ impl From<Refusal> for Notice {
     ghost from_gives = { λ refusal notice. notice ≡ notice_of refusal };
 
     fn from(refusal: Refusal) -> Notice {
-        let number = match refusal {
-            Refusal::StartLength => 7,
-            Refusal::RunTooLong => 8,
-            Refusal::RunNotWhole => 9,
-            Refusal::NoChainBlock => 10,
+        let (number, place) = match refusal {
+            Refusal::DescriptionTooLong => (1, 64),
+            Refusal::NoWord(length) => (2, length),
+            Refusal::UnknownName(place) => (3, place),
+            Refusal::BadCount(place) => (4, place),
+            Refusal::FifthWord(place) => (5, place),
+            Refusal::KeyLength => (6, 0),
+            Refusal::StartLength => (7, 0),
+            Refusal::RunTooLong => (8, 0),
+            Refusal::RunNotWhole => (9, 0),
+            Refusal::NoChainBlock => (10, 0),
         };
-        Notice { number, place: 0 }
+        Notice { number, place }
     }
 }
 
