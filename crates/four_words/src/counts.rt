@@ -1,5 +1,7 @@
 // The number of rounds of a four-word network.
-ghost use Rattle.std.specs.Prelude.{◌≡◌, ◌≤◌, MatchOption};
+ghost use Rattle.std.specs.Prelude.{◌≡◌, ◌≤◌, MatchOption, nat_eq};
+ghost use Rattle.std.specs.Cmp.Rules.{comparing};
+ghost use Rattle.std.proofs.Common.{rules};
 
 use std::marker::Model;
 
@@ -48,4 +50,18 @@ impl Rounds {
     {
         self.count
     }
+}
+
+impl PartialEq for Rounds {
+    ghost eq = { nat_eq };
+
+    ghost laws = { Prim.search (comparing, rules) };
+
+    fn eq(&self, other: &Rounds) -> bool {
+        self.count == other.count
+    }
+}
+
+impl Eq for Rounds {
+    ghost laws = { Prim.search (comparing, rules) };
 }

@@ -1,5 +1,7 @@
 // The number of XTEA's cycles, of two rounds each.
-ghost use Rattle.std.specs.Prelude.{◌≡◌, ◌≤◌, MatchOption};
+ghost use Rattle.std.specs.Prelude.{◌≡◌, ◌≤◌, MatchOption, nat_eq};
+ghost use Rattle.std.specs.Cmp.Rules.{comparing};
+ghost use Rattle.std.proofs.Common.{rules};
 
 use std::marker::Model;
 
@@ -55,4 +57,18 @@ impl Cycles {
     {
         self.count
     }
+}
+
+impl PartialEq for Cycles {
+    ghost eq = { nat_eq };
+
+    ghost laws = { Prim.search (comparing, rules) };
+
+    fn eq(&self, other: &Cycles) -> bool {
+        self.count == other.count
+    }
+}
+
+impl Eq for Cycles {
+    ghost laws = { Prim.search (comparing, rules) };
 }
