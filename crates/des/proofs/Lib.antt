@@ -1,3 +1,4 @@
+pub mod Below
 pub mod Ciphering
 pub mod Complement
 pub mod Deciphering

@@ -1,0 +1,4 @@
+pub mod Below
+pub mod Examples
+pub mod Four
+pub mod Turning

@@ -1,0 +1,3 @@
+pub mod Fitting
+pub mod Keyed
+pub mod Layers

@@ -1,0 +1,76 @@
+// A pile: up to four ciphers one after another, under one key.
+ghost use Rattle.std.specs.Prelude.{◌≡◌, ℕ, length, replicate};
+ghost use Rattle.ciphers.specs.Maps.{SameMap};
+ghost use Rattle.piles.specs.Fitting.{Answers, answer, fitting, map_after};
+ghost use Rattle.piles.specs.Layers.{sealing};
+
+use crate::keys::{Key, Wiped};
+use crate::layers::Layer;
+use crate::supply::{Layers, layers};
+use ciphers::{Cipher, Pair, Undo};
+use plans::read;
+use refusals::Refusal;
+
+#[derive(Drop)]
+pub struct Pile {
+    layers: Layers,
+}
+
+impl Pile {
+    // A pile that keeps every block.
+    pub fn new() -> Pile
+        ensures { (b : ℕ) → sealing result b ≡ b }
+    {
+        Pile {
+            layers: Pair::new(
+                Pair::new(Layer::Empty, Layer::Empty),
+                Pair::new(Layer::Empty, Layer::Empty),
+            ),
+        }
+    }
+
+    // Reads a description, takes over a key, and fills the pile with the stages from left to right, each under its bytes
+    // of the key, in place of what it held. The key's bytes are zeros afterwards.
+    pub fn fit(&mut self, description: &[u8], key: Key<'_>) -> Result<(), Refusal>
+        ensures answer { result ≡ answer (fitting description.now key.entry.0.now) }
+        ensures map { SameMap (sealing self.new) (map_after (fitting description.now key.entry.0.now) key.entry.0.now (sealing self.old)) }
+        ensures blank { key.exit.0.now ≡ replicate (length key.entry.0.now) 0 }
+    {
+        let Key(bytes) = key;
+        let key = Wiped(bytes);
+        let plan = read(description)?;
+        if key.0.len() != plan.key_length() {
+            return Err(Refusal::KeyLength);
+        }
+        self.layers = layers(plan.stages(), key.0);
+        Ok(())
+    }
+
+    // A new pile that a description and the key in some bytes fit. The bytes are zeros afterwards.
+    pub fn fitted(description: &[u8], bytes: &mut [u8]) -> Result<Pile, Refusal>
+        ensures pile { Answers (fitting description.now bytes.old) bytes.old result }
+        ensures blank { bytes.new ≡ replicate (length bytes.old) 0 }
+    {
+        let mut pile = Pile::new();
+        pile.fit(description, Key::new(bytes))?;
+        Ok(pile)
+    }
+}
+
+impl Cipher for Pile {
+    ghost map = { sealing };
+
+    fn seal(&self, block: u64) -> u64 {
+        self.layers.seal(block)
+    }
+
+    fn turn(&mut self) {
+        self.layers.turn();
+    }
+}
+
+impl Undo for Pile {
+    fn undo(&self, block: u64) -> u64 {
+        self.layers.undo(block)
+    }
+}
