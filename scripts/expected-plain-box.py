@@ -3,12 +3,17 @@
 
 It shares no code with the workbench.
 """
+import re
+
 import plain_box_reading
 import verdicts
 
 
-def plain(rounds):
-    return 16, lambda key, text: plain_box_reading.seal(key, text, rounds)
+def fit(description, key):
+    said = re.fullmatch(rb"plain:([1-8])", description)
+    if not said or len(key) != 16:
+        return "unreadable"
+    return lambda text: plain_box_reading.seal(key, text, int(said.group(1)))
 
 
-verdicts.main({b"plain:%d" % rounds: plain(rounds) for rounds in range(1, 9)})
+verdicts.main(fit)

@@ -1,18 +1,15 @@
 -- What hexadecimal digits write, the most significant first. Assumes nothing.
-use Rattle.std.specs.Prelude.{ℕ, ◌+◌, ◌-◌, ◌*◌, Bool, ◌&&◌, List, [], ◌∷◌, length, map, Some, None, Option, ◌==◌, nat_le, if◌then◌else◌}
+use Rattle.std.specs.Prelude.{ℕ, ◌+◌, ◌-◌, ◌*◌, List, [], ◌∷◌, length, map, Some, None, Option, ◌==◌, if◌then◌else◌}
 use Rattle.std.specs.Option.{option_map}
+use Rattle.std.specs.Int.{is_in_range}
 use Rattle.std.specs.Int.Digits.{number_from_digits}
-
--- whether c lies between two characters, both of them included
-abbrev pub among : ℕ → ℕ → ℕ → Bool
-among low high c = nat_le low c && nat_le c high
 
 -- what the character c is worth: 0 to 9, a to f, A to F
 abbrev pub digit_of : ℕ → Option ℕ
 digit_of c =
-    if among 48 57 c then Some (c - 48)
-    else if among 97 102 c then Some (c - 97 + 10)
-    else if among 65 70 c then Some (c - 65 + 10)
+    if is_in_range 48 57 c then Some (c - 48)
+    else if is_in_range 97 102 c then Some (c - 97 + 10)
+    else if is_in_range 65 70 c then Some (c - 65 + 10)
     else None
 
 -- a first element and the others, where all are there

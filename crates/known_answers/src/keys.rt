@@ -36,10 +36,19 @@ impl KeyBytes {
         self.bytes.push(byte);
     }
 
+    // The bytes to look at.
     pub fn as_slice(&self) -> &[u8]
         ensures value { result.now ≡ self.now }
         ensures fits { length result.now ≤ 96 }
     {
         self.bytes.as_slice()
+    }
+
+    // The bytes for whoever takes the key.
+    pub fn into_bytes(self) -> ArrayVec<u8, 96>
+        ensures { result.items ≡ self }
+    {
+        let KeyBytes { bytes } = self;
+        bytes
     }
 }

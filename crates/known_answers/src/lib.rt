@@ -1,11 +1,15 @@
 // Known answers of a block cipher, one to a line: `description;key;text;sealed`, the last three in hexadecimal of either case.
 //
-// The crate cuts an input into lines, reads a line and counts verdicts; it knows no cipher. Promises: a function answers
-// what its definition in specs/ gives, and answers none exactly where the definition gives none. Nothing asks for memory.
+// The crate cuts an input into lines, reads a line, and counts and prints the verdicts that an examiner gives; it knows no
+// cipher. Promises: a function answers what its definition in specs/ gives, and answers none exactly where the definition
+// gives none. Nothing asks for memory.
 #![tactic(auto)]
 
+pub mod examiner;
 pub mod hex;
 pub mod keys;
 pub mod lines;
+pub mod report;
+pub mod running;
 pub mod tally;
 pub mod vector;

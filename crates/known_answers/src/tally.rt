@@ -1,7 +1,9 @@
 // How many known answers came out, and how.
 ghost use Rattle.std.specs.Prelude.{◌≡◌};
+ghost use Rattle.refusals.specs.Notices.{notice_of};
 ghost use Rattle.known_answers.specs.Tally.{none, counted};
 
+use refusals::{Notice, Refusal};
 use thiserror::Error;
 
 // How a known answer failed to come out.
@@ -10,8 +12,21 @@ pub enum Fault {
     // The block that came in place of the known one.
     #[error("differs {0:016X}")]
     Differs(u64),
+    // The description and the key fit no pile.
+    #[error("refused {number}", number = .0.number)]
+    Refused(Notice),
     #[error("unreadable")]
     Unreadable,
+}
+
+impl From<Refusal> for Fault {
+    ghost use Rattle.known_answers.specs.declared.tally.Fault.TheVariants.{Refused};
+
+    ghost from_gives = { λ refusal fault. fault ≡ Refused (notice_of refusal) };
+
+    fn from(refusal: Refusal) -> Fault {
+        Fault::Refused(refusal.into())
+    }
 }
 
 // How a known answer came out.
@@ -22,6 +37,7 @@ pub type Verdict = Result<(), Fault>;
 pub struct Tally {
     pub ok: usize,
     pub differs: usize,
+    pub refused: usize,
     pub unreadable: usize,
 }
 
@@ -38,6 +54,7 @@ impl Tally {
         match verdict {
             Ok(()) => self.ok = self.ok.saturating_add(1),
             Err(Fault::Differs(_)) => self.differs = self.differs.saturating_add(1),
+            Err(Fault::Refused(_)) => self.refused = self.refused.saturating_add(1),
             Err(Fault::Unreadable) => self.unreadable = self.unreadable.saturating_add(1),
         }
     }

@@ -1,7 +1,6 @@
 -- What is said of a known answer of the plain box. Assumes nothing.
-use Rattle.std.specs.Prelude.{ℕ, List, length, map, Some, None, Option, Err, ◌==◌, if◌then◌else◌}
+use Rattle.std.specs.Prelude.{ℕ, List, length, Some, None, Option, Err, ◌==◌, if◌then◌else◌}
 use Rattle.known_answers.specs.declared.tally.Fault.TheVariants.{Unreadable}
-use Rattle.known_answers.specs.Cut.{lines_of}
 use Rattle.known_answers.specs.Tally.{Verdict}
 use Rattle.known_answers.specs.Vector.{Reading, reading_of}
 use Rattle.trials.specs.Verdicts.{verdict_on}
@@ -16,16 +15,3 @@ tried_by (Some rounds) r = if length r.1 == 16 then verdict_on (sealed_by rounds
 -- of a reading: its description, its key, its text and its sealed block
 abbrev pub tried_on : Reading → Verdict
 tried_on r = tried_by (rounds_of r.0) r
-
--- of a reading, if there is one
-abbrev tried_if : Option Reading → Verdict
-tried_if None = Err Unreadable
-tried_if (Some r) = tried_on r
-
--- of a line
-abbrev pub verdict_of : List ℕ → Verdict
-verdict_of line = tried_if (reading_of line)
-
--- of the lines of an input, one after another
-abbrev pub verdicts_of : List ℕ → List Verdict
-verdicts_of input = map verdict_of (lines_of input)

@@ -1,3 +1,1 @@
-pub mod Descriptions
-pub mod Runs
 pub mod Verdicts

@@ -1,46 +1,14 @@
 // Reads known answers from standard input, seals and opens each, and prints a verdict for each line and then the totals.
 #![tactic(auto)]
 
-ghost use Rattle.std.specs.Prelude.{◌≡◌, IfOk};
-ghost use Rattle.known_answers.specs.Tally.{none};
-ghost use Rattle.trials.specs.Runs.{verdicts_of, tallied};
-
-use known_answers::tally::{Tally, Verdict};
-use std::io;
+use known_answers::report::report;
 use std::io::Read;
-use trials::Run;
-
-// A `match`, since a Result has no text of its own.
-fn print_verdict(rt: &HostRuntime, number: usize, verdict: &Verdict) -> io::Result<()> {
-    match verdict {
-        Ok(()) => println!(rt; "{number} ok"),
-        Err(fault) => println!(rt; "{number} {fault}"),
-    }
-}
-
-// Prints a verdict for each line, and answers the totals of all of them.
-fn print_verdicts(rt: &HostRuntime, input: &[u8]) -> io::Result<Tally>
-    ensures { IfOk result (λ t. t ≡ tallied none (verdicts_of input.now)) }
-{
-    let mut run = Run::new(input);
-    let mut number: usize = 0;
-    // Not `for .. in run.by_ref().enumerate()`: std does not say that `next` of a `&mut` keeps its reference, so the totals stay open.
-    while let Some(verdict) = run.next() {
-        number = number.saturating_add(1);
-        print_verdict(rt, number, &verdict)?;
-    }
-    Ok(run.tally())
-}
+use trials::Piles;
 
 fn run(rt: &HostRuntime) -> anyhow::Result<()> {
     let mut input = Vec::new(rt.alloc());
     let _ = rt.stdin().read_to_end(&mut input)?;
-    let Tally {
-        ok,
-        differs,
-        unreadable,
-    } = print_verdicts(rt, input.as_slice())?;
-    println!(rt; "ok {ok} differs {differs} unreadable {unreadable}")?;
+    let _ = report::<Piles>(rt, input.as_slice())?;
     Ok(())
 }
 
