@@ -1,7 +1,7 @@
 -- What each refusal is told as. Assumes nothing.
 use Rattle.std.specs.Prelude.{ℕ, List, ◌++◌, codes, decimal}
 use Rattle.refusals.specs.declared.notices.Notice.{Notice}
-use Rattle.refusals.specs.declared.reasons.Refusal.TheVariants.{DescriptionTooLong, NoWord, UnknownName, BadCount, FifthWord, KeyLength, StartLength, RunTooLong, RunNotWhole, NoChainBlock}
+use Rattle.refusals.specs.declared.reasons.Refusal.TheVariants.{DescriptionTooLong, NoWord, UnknownName, BadCount, FifthWord, KeyLength, StartLength, RunTooLong, PlainTooLong, RunNotWhole, NoChainBlock, FieldTooLarge, FileLength, FileForm, BadPadding, OutputTooShort}
 use Rattle.refusals.specs.declared.reasons.Refusal.{Refusal}
 
 -- a number, and a place in what the caller brought
@@ -18,8 +18,14 @@ notice_of (FifthWord place) = numbered 5 place
 notice_of KeyLength = numbered 6 0
 notice_of StartLength = numbered 7 0
 notice_of RunTooLong = numbered 8 0
+notice_of PlainTooLong = numbered 8 0
 notice_of RunNotWhole = numbered 9 0
 notice_of NoChainBlock = numbered 10 0
+notice_of FieldTooLarge = numbered 11 0
+notice_of FileLength = numbered 12 0
+notice_of FileForm = numbered 13 0
+notice_of BadPadding = numbered 14 0
+notice_of OutputTooShort = numbered 15 0
 
 -- how a notice is printed: its number at its place
 abbrev pub notice_text : Notice → List ℕ

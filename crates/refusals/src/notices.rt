@@ -25,9 +25,14 @@ impl From<Refusal> for Notice {
             Refusal::FifthWord(place) => (5, place),
             Refusal::KeyLength => (6, 0),
             Refusal::StartLength => (7, 0),
-            Refusal::RunTooLong => (8, 0),
+            Refusal::RunTooLong | Refusal::PlainTooLong => (8, 0),
             Refusal::RunNotWhole => (9, 0),
             Refusal::NoChainBlock => (10, 0),
+            Refusal::FieldTooLarge => (11, 0),
+            Refusal::FileLength => (12, 0),
+            Refusal::FileForm => (13, 0),
+            Refusal::BadPadding => (14, 0),
+            Refusal::OutputTooShort => (15, 0),
         };
         Notice { number, place }
     }
