@@ -9,10 +9,12 @@ use Rattle.chaining.specs.Benches.{other}
 use Rattle.chaining.specs.Runs.{Bytes, block, before, Rewritten, chain_after}
 use Rattle.chaining.proofs.Bytes.{block_lt, same_bytes}
 
-xor_twice : (a p : ℕ) → bit_xor (bit_xor a p) p ≡ a
+-- to xor twice with a word changes nothing
+pub xor_twice : (a p : ℕ) → bit_xor (bit_xor a p) p ≡ a
 xor_twice a p = xor_assoc a p p ∙ ap (bit_xor a) (xor_self p) ∙ xor_zero_r a
 
-before_lt : (r : ℕ) (xs : List ℕ) (i : ℕ) → r < 2 ^ 64 → Bytes xs → before r xs i < 2 ^ 64
+-- a sealed block before another is a block
+pub before_lt : (r : ℕ) (xs : List ℕ) (i : ℕ) → r < 2 ^ 64 → Bytes xs → before r xs i < 2 ^ 64
 before_lt r xs zero p b = p
 before_lt r xs (suc i) p b = block_lt xs i b
 

@@ -1,0 +1,9 @@
+pub mod Examples
+pub mod Given
+pub mod Judged
+pub mod Labels
+pub mod Laying
+pub mod Lending
+pub mod Paddings
+pub mod Returning
+pub mod Sealings

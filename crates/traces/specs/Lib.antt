@@ -1,0 +1,6 @@
+pub mod Closing
+pub mod Files
+pub mod Headers
+pub mod Laws
+pub mod Opening
+pub mod Padding
