@@ -16,11 +16,9 @@ mod opposites;
 mod rounding;
 mod tables;
 mod triple;
-mod values;
 
 pub use boxes::s_box;
 pub use cipher::Des;
 pub use opposites::{Sealed, seal_both};
 pub use rounding::DesRound;
 pub use triple::{TripleDes, ede2, ede3};
-pub use values::{s1_of_011011, worked_example};

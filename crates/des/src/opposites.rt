@@ -15,7 +15,7 @@ pub struct Sealed {
 }
 
 // The block to which a text is sealed.
-pub(crate) fn seal_under(key: &[u8; 8], text: u64) -> u64
+fn seal_under(key: &[u8; 8], text: u64) -> u64
     ensures { result ≡ des (from_be_bytes w64 key.now) text }
 {
     Des::new(key).seal(text)

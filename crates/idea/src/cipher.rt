@@ -11,11 +11,11 @@ ghost use Rattle.idea.specs.Sealing.{groups, sealing};
 use crate::expansion::key_schedule;
 use crate::mixing::IdeaBox;
 use ciphers::{Cipher, Undo};
-use four_words::{FourWord, KeyWords, Rounds};
+use four_words::{FourWord, KeyWords, Rounds, Words};
 use groups::Sum16;
 use products::Product16;
 
-pub(crate) type IdeaNetwork = FourWord<Product16, Sum16, IdeaBox>;
+type IdeaNetwork = FourWord<Product16, Sum16, IdeaBox>;
 
 #[derive(Drop)]
 pub struct Idea {
@@ -23,7 +23,7 @@ pub struct Idea {
 }
 
 // The network of a key. It tells too which numbers of rounds there are, which its caller's proof needs.
-pub(crate) fn network(key: &[u8; 16], rounds: Rounds) -> IdeaNetwork
+fn network(key: &[u8; 16], rounds: Rounds) -> IdeaNetwork
     ensures key { result.key ≡ key_of rounds (key_words (from_be_bytes w128 key.now)) }
     ensures some { 1 ≤ rounds }
     ensures few { rounds ≤ 8 }
@@ -40,6 +40,13 @@ impl Idea {
         Idea {
             network: network(key, rounds),
         }
+    }
+
+    // The words that are joined last, behind the rounds. Turning changes them.
+    pub fn closing(&self) -> &Words
+        ensures { result.now ≡ self.now.network.key.closing }
+    {
+        self.network.key().closing()
     }
 }
 

@@ -25,8 +25,8 @@ fn key_words(key: u128) -> [u16; 52]
     words
 }
 
-// The words of a key of sixteen bytes, the first one most significant.
-pub(crate) fn key_schedule(key: &[u8; 16]) -> [u16; 52]
+// The words of a key of sixteen bytes, the first byte most significant: those of eight rounds and four closing words.
+pub fn key_schedule(key: &[u8; 16]) -> [u16; 52]
     ensures { result ≡ key_words (from_be_bytes w128 key.now) }
 {
     key_words(u128::from_be_bytes(*key))

@@ -2,15 +2,15 @@
 //
 // Promises: the map of `Idea::new` is IDEA as the Handbook of Applied Cryptography has it, for every key of sixteen bytes
 // and 1 to 8 rounds. It is built as a four-word network over the product modulo 65,537 and the sum modulo 2^16, so turning
-// and undoing need no proof of their own. No call refuses.
+// and undoing need no proof of their own. `key_schedule` gives the words of a key, and `closing` tells a cipher's closing
+// words, turned or not. No call refuses.
 #![tactic(auto)]
 
 mod cipher;
 mod expansion;
 mod mixing;
-mod values;
 
 pub use cipher::Idea;
-pub use four_words::Rounds;
+pub use expansion::key_schedule;
+pub use four_words::{Rounds, Words};
 pub use mixing::IdeaBox;
-pub use values::{second_eight_words, turned_closing_words, worked_example};

@@ -6,7 +6,5 @@
 #![tactic(auto)]
 
 mod product;
-mod values;
 
 pub use product::Product16;
-pub use values::{two_by_32769, zero_by_zero};

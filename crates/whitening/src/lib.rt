@@ -7,7 +7,5 @@
 #![tactic(auto)]
 
 mod adder;
-mod values;
 
 pub use adder::{Wadd, Whitening, Wxor};
-pub use values::{sum_that_wraps, sum_without_carry};

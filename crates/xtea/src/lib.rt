@@ -9,9 +9,7 @@ mod cipher;
 mod cycles;
 mod expansion;
 mod rounding;
-mod values;
 
 pub use cipher::Xtea;
 pub use cycles::Cycles;
 pub use rounding::XteaRound;
-pub use values::one_cycle_of_zeros;
