@@ -183,3 +183,8 @@ def seal_ede(keys, block):
     """Of sixteen bytes of keys, the first eight are the third key too."""
     first, second, third = keys[:8], keys[8:16], keys[16:] or keys[:8]
     return seal(third, open_(second, seal(first, block)))
+
+
+def open_ede(keys, block):
+    first, second, third = keys[:8], keys[8:16], keys[16:] or keys[:8]
+    return open_(first, seal(second, open_(third, block)))

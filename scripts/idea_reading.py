@@ -10,8 +10,17 @@ def times(a, b):
     return (a or 65536) * (b or 65536) % 65537 & WORD
 
 
+def over(c, b):
+    """The a for which times(a, b) is c."""
+    return times(c, pow(b or 65536, -1, 65537) & WORD)
+
+
 def plus(a, b):
     return (a + b) & WORD
+
+
+def minus(c, b):
+    return (c - b) & WORD
 
 
 def key_words(key, count):
@@ -39,3 +48,20 @@ def seal(key, text, rounds=8):
     k1, k2, k3, k4 = words[6 * rounds :]
     # The exchange of the last round is not made: the second word is worked out from x3, the third from x2.
     return times(x1, k1) << 48 | plus(x3, k2) << 32 | plus(x2, k3) << 16 | times(x4, k4)
+
+
+def open_(key, sealed, rounds=8):
+    """Undoes `seal`, step by step and last step first."""
+    words = key_words(key, 6 * rounds + 4)
+    x1, x3, x2, x4 = (sealed >> shift & WORD for shift in (48, 32, 16, 0))
+    k1, k2, k3, k4 = words[6 * rounds :]
+    x1, x3, x2, x4 = over(x1, k1), minus(x3, k2), minus(x2, k3), over(x4, k4)
+    for r in reversed(range(rounds)):
+        k1, k2, k3, k4, k5, k6 = words[6 * r : 6 * r + 6]
+        # The box was given x1 ^ x3 and x2 ^ x4 of before. They stand in x1 ^ x2 and x3 ^ x4.
+        t0 = times(k5, x1 ^ x2)
+        t1 = times(k6, plus(t0, x3 ^ x4))
+        t2 = plus(t0, t1)
+        x1, x2, x3, x4 = x1 ^ t1, x3 ^ t2, x2 ^ t1, x4 ^ t2
+        x1, x2, x3, x4 = over(x1, k1), minus(x2, k2), minus(x3, k3), over(x4, k4)
+    return x1 << 48 | x2 << 32 | x3 << 16 | x4

@@ -1,4 +1,4 @@
-"""Descriptions of piles of ciphers, and sealing by a pile. Shares no code with the workbench."""
+"""Descriptions of piles of ciphers, and sealing and opening by a pile. Shares no code with the workbench."""
 import re
 from typing import Callable, NamedTuple
 
@@ -23,6 +23,7 @@ class Stage(NamedTuple):
     text: str
     key_bytes: int
     seal: Callable
+    open_: Callable
 
 
 class Counted(NamedTuple):
@@ -32,9 +33,22 @@ class Counted(NamedTuple):
     key_bytes: int
     largest: int
     seal: Callable
+    open_: Callable
 
     def stage(self, count):
-        return Stage("%s:%d" % (self.name, count), self.key_bytes, lambda key, text: self.seal(key, text, count))
+        return Stage(
+            "%s:%d" % (self.name, count),
+            self.key_bytes,
+            lambda key, text: self.seal(key, text, count),
+            lambda key, sealed: self.open_(key, sealed, count),
+        )
+
+
+class Ways(NamedTuple):
+    """A pile under its key: what seals a text by it, and what opens what that sealed."""
+
+    seal: Callable
+    open_: Callable
 
 
 def halved(word):
@@ -51,16 +65,21 @@ def wadd(key, text):
     return ((t + k) & HALF) << 32 | (u + l) & HALF
 
 
+def wadd_back(key, sealed):
+    (k, l), (t, u) = halved(int.from_bytes(key, "big")), halved(sealed)
+    return ((t - k) & HALF) << 32 | (u - l) & HALF
+
+
 PLAIN = {
-    b"des": Stage("des", 8, des_reading.seal),
-    b"ede2": Stage("ede2", 16, des_reading.seal_ede),
-    b"ede3": Stage("ede3", 24, des_reading.seal_ede),
-    b"wxor": Stage("wxor", 8, wxor),
-    b"wadd": Stage("wadd", 8, wadd),
+    b"des": Stage("des", 8, des_reading.seal, des_reading.open_),
+    b"ede2": Stage("ede2", 16, des_reading.seal_ede, des_reading.open_ede),
+    b"ede3": Stage("ede3", 24, des_reading.seal_ede, des_reading.open_ede),
+    b"wxor": Stage("wxor", 8, wxor, wxor),
+    b"wadd": Stage("wadd", 8, wadd, wadd_back),
 }
 COUNTED = {
-    b"idea": Counted("idea", 16, 8, idea_reading.seal),
-    b"xtea": Counted("xtea", 16, 32, xtea_reading.seal),
+    b"idea": Counted("idea", 16, 8, idea_reading.seal, idea_reading.open_),
+    b"xtea": Counted("xtea", 16, 32, xtea_reading.seal, xtea_reading.open_),
 }
 
 
@@ -101,17 +120,36 @@ def stages(description):
     return pile
 
 
+def cut(pile, key):
+    """Each stage with its bytes of the key."""
+    keyed = []
+    for cipher in pile:
+        keyed.append((cipher, key[: cipher.key_bytes]))
+        key = key[cipher.key_bytes :]
+    return keyed
+
+
 def seal(pile, key, text):
     """Each stage takes its bytes of the key, and seals what the stage to its left has sealed."""
-    for cipher in pile:
-        text = cipher.seal(key[: cipher.key_bytes], text)
-        key = key[cipher.key_bytes :]
+    for cipher, part in cut(pile, key):
+        text = cipher.seal(part, text)
     return text
+
+
+def open_(pile, key, sealed):
+    for cipher, part in reversed(cut(pile, key)):
+        sealed = cipher.open_(part, sealed)
+    return sealed
+
+
+def both_fitted(description, key):
+    """What seals by the pile under the key, and what opens."""
+    pile = stages(description)
+    if len(key) != sum(cipher.key_bytes for cipher in pile):
+        raise Refused(KEY_LENGTH, 0)
+    return Ways(lambda text: seal(pile, key, text), lambda sealed: open_(pile, key, sealed))
 
 
 def fitted(description, key):
     """What seals a text by the pile under the key."""
-    pile = stages(description)
-    if len(key) != sum(cipher.key_bytes for cipher in pile):
-        raise Refused(KEY_LENGTH, 0)
-    return lambda text: seal(pile, key, text)
+    return both_fitted(description, key).seal
