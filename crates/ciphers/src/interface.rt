@@ -6,7 +6,7 @@ ghost use Rattle.ciphers.specs.Maps.{Inverse};
 pub trait Cipher {
     ghost map: { Self → ℕ → ℕ };
 
-    // Encrypts: the map's block.
+    // The map's block: encrypts, or decrypts once the cipher is turned.
     fn seal(&self, block: u64) -> u64
         ensures { result ≡ map self.now block };
 

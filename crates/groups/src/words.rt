@@ -1,10 +1,10 @@
-// Machine words, with their sum modulo the number of words. In a contract a number is unbounded, so each word type says
-// which numbers are its words.
+// Machine words, with their sum modulo the number of words.
 ghost use Rattle.std.specs.Prelude.{◌≡◌, ◌^◌, ◌<◌};
+ghost use Rattle.std.proofs.Common.{rules};
 ghost use Rattle.groups.specs.Laws.{Lawful};
 ghost use Rattle.groups.specs.Sums.{sum, negative};
-ghost use Rattle.std.proofs.Common.{rules};
 
+// In a contract a number is unbounded, so each word type says which numbers are its words.
 pub trait Word: Copy {
     // the numbers that are words of this type
     ghost fits: { Self → Type 0 };
@@ -31,7 +31,6 @@ pub trait Summed: Word {
     ghost lawful: { Lawful Self.Word.fits ZERO summed negated };
 }
 
-// Each width says which numbers are its words; nothing else is in these two.
 impl Word for u16 {
     ghost fits = { λ x. x < 2 ^ 16 };
 }
@@ -40,7 +39,8 @@ impl Word for u32 {
     ghost fits = { λ x. x < 2 ^ 32 };
 }
 
-// One implementation for each width: it holds what the widths differ in. The gate takes none that a macro of ours writes.
+// One implementation for each width: it holds what the widths differ in. No macro could write both, since its body can hold
+// no ghost member.
 impl Summed for u16 {
     const ZERO: u16 = 0;
 

@@ -2,13 +2,15 @@
 use Rattle.std.specs.Prelude.{ℕ, ◌+◌, ◌*◌, ◌/◌, ◌%◌, ◌^◌}
 use Rattle.networks.specs.declared.pairs.Halves.{Halves}
 
+-- the halves in each other's place
 abbrev pub swapped : {W : Type 0} → Halves W → Halves W
 swapped h = record { left = h.right; right = h.left }
 
--- the left half is the high one
+-- the halves of a block, the left one high
 abbrev pub halves_of : ℕ → Halves ℕ
 halves_of b = record { left = b / 2 ^ 32; right = b % 2 ^ 32 }
 
+-- the block that has them as its halves
 abbrev pub block_of : Halves ℕ → ℕ
 block_of h = h.left * 2 ^ 32 + h.right
 

@@ -1,4 +1,4 @@
-// Cipher networks, generic over a group and a round function, with both of their ways back.
+// Feistel networks, generic over a group and a round function, with both of their ways back.
 //
 // Promises, for every lawful group, round function, number of rounds from 0 to 64 and choice of round words:
 // `Feistel::run` answers what the definition of the network says; `turn` reverses the round words and inverts the

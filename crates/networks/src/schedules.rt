@@ -1,10 +1,11 @@
-// The round words of a Feistel network: at most 64, kept in the value itself. It is no other name of the library's
-// vector, so that nobody outside changes a word.
+// The round words of a Feistel network.
 ghost use Rattle.std.specs.Prelude.{◌≡◌, ◌≤◌, length, min, reverse, take};
 
 use arrayvec::ArrayVec;
 use std::marker::Model;
 
+// At most 64 words, kept in the value itself. It is no other name of the library's vector, so that nobody outside changes a
+// word.
 #[derive(Drop)]
 pub struct Schedule {
     words: ArrayVec<u64, 64>,

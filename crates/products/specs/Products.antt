@@ -23,6 +23,6 @@ squared (suc k) x = product (squared k x) (squared k x)
 abbrev pub stretched : ℕ → ℕ → ℕ
 stretched k p = product (squared k p) p
 
--- the power 65,535, as its powers 3, 15, 255 and 65,535
+-- the inverse of a word: its power 65,535, by the powers 3, 15 and 255
 unfoldable pub inverse : ℕ → ℕ
 inverse x = stretched 8 (stretched 4 (stretched 2 (stretched 1 x)))

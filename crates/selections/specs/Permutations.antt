@@ -6,6 +6,7 @@ use Rattle.std.specs.List.{count_by, list_all, position_or_len, range_with_len}
 abbrev pub places : ℕ → List ℕ
 places w = range_with_len 1 w
 
+-- whether i is one of them
 abbrev pub is_place : ℕ → ℕ → Bool
 is_place w i = nat_le 1 i && nat_le i w
 
