@@ -3,7 +3,7 @@ use Rattle.std.specs.Prelude.{ℕ, ◌+◌, ◌-◌, ◌*◌, ◌/◌, ◌%◌, 
 use Rattle.std.specs.List.{count_by, range_with_len}
 use Rattle.des.specs.Tables.{rows}
 
--- number c of a row
+-- number c of a row, counted from 0
 abbrev pub number_in : ℕ → ℕ → ℕ
 number_in row c = row / 16 ^ (15 - c) % 16
 
@@ -11,10 +11,11 @@ number_in row c = row / 16 ^ (15 - c) % 16
 unfoldable pub box_numbers : List ℕ
 box_numbers = map (λ k. number_in (slice_index rows (k / 16)) (k % 16)) (range_with_len 0 512)
 
--- of six bits, b1 and b6 choose the row and the four between them the column
+-- of six bits, b1 and b6 choose the row
 abbrev pub row_of : ℕ → ℕ
 row_of six = 2 * (six / 32) + six % 2
 
+-- and the four between them the column
 abbrev pub column_of : ℕ → ℕ
 column_of six = six / 2 % 16
 

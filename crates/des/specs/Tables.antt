@@ -1,4 +1,4 @@
--- The tables of DES, as FIPS 46-3 prints them. Bits are counted from 1 at the most significant; entry i names the bit that becomes bit i. Assumes nothing.
+-- The tables of DES, as FIPS 46-3 prints them or by a rule. Bits are counted from 1 at the most significant; entry i names the bit that becomes bit i. Assumes nothing.
 use Rattle.std.specs.Prelude.{ℕ, zero, suc, ◌+◌, ◌-◌, ◌*◌, ◌%◌, List, [], ◌∷◌, ◌++◌, map}
 use Rattle.std.specs.List.{flat_map, range_with_len}
 

@@ -9,6 +9,7 @@ use arrayvec::ArrayVec;
 use networks::Schedule;
 use selections::select;
 
+// 28 bits, rotated to the left.
 fn rotated(part: u64, places: u32) -> u64
     requires within { part < 2 ^ 28 }
     requires few { places ≤ 28 }
@@ -18,7 +19,7 @@ fn rotated(part: u64, places: u32) -> u64
     (part % (1 << kept) << places) + (part >> kept)
 }
 
-// 28 bits, rotated to the left: 28 bits again.
+// The same, and that there are 28 bits again.
 #[tactic(auto, using(crate::proofs::Parts::rotated_below))]
 fn rotate(part: u64, places: u32) -> u64
     requires within { part < 2 ^ 28 }

@@ -19,7 +19,7 @@ four_at ws i = record { first = slice_index ws i; second = slice_index ws (i + 1
 abbrev pub round_at : List ℕ → ℕ → RoundWords
 round_at ws r = record { joins = four_at ws (6 * r); mixing = record { z5 = slice_index ws (6 * r + 4); z6 = slice_index ws (6 * r + 5) } }
 
--- round by round, and then the closing words
+-- the words of n rounds, six for each, and then the closing words
 abbrev pub key_of : ℕ → List ℕ → Key
 key_of n ws = record { first = round_at ws 0; others = map (round_at ws) (range_with_len 1 (n - 1)); closing = four_at ws (6 * n) }
 

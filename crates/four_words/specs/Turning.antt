@@ -6,7 +6,7 @@ use Rattle.four_words.specs.Joining.{Groups, inverses}
 use Rattle.four_words.specs.Keying.{Key}
 use Rattle.four_words.specs.Quarters.{exchanged}
 
--- z5 and z6 of the last round, where a first one has m and is followed by others
+-- z5 and z6 of the last of some rounds; m where there are none
 unfoldable pub last_mixing : BoxWords → List RoundWords → BoxWords
 last_mixing m [] = m
 last_mixing m (k ∷ ks) = last_mixing k.mixing ks
@@ -15,7 +15,7 @@ last_mixing m (k ∷ ks) = last_mixing k.mixing ks
 abbrev pub turned_round : Groups → BoxWords → RoundWords → RoundWords
 turned_round G m k = record { joins = inverses G (exchanged k.joins); mixing = m }
 
--- each round with z5 and z6 of the one before it, which has m before the first of them
+-- the turned words of some rounds, each with z5 and z6 of the round before it; m is of the one before them all
 unfoldable pub preceded : Groups → BoxWords → List RoundWords → List RoundWords
 preceded G m [] = []
 preceded G m (k ∷ ks) = turned_round G m k ∷ preceded G k.mixing ks

@@ -1,12 +1,12 @@
 // Four-word networks over any two groups and mixing box.
 ghost use Rattle.std.specs.Prelude.{◌≡◌};
+ghost use Rattle.networks.specs.Inverses.{Inverses};
 ghost use Rattle.four_words.specs.Joining.{both};
 ghost use Rattle.four_words.specs.Keying.{KeyFits};
 ghost use Rattle.four_words.specs.Networks.{network};
 ghost use Rattle.four_words.specs.Passing.{added, mixed, ran, round, turned, unran, unround};
 ghost use Rattle.four_words.specs.Quarters.{Fit, exchanged};
 ghost use Rattle.four_words.specs.Turning.{TurnedWords};
-ghost use Rattle.networks.specs.Inverses.{Inverses};
 
 use crate::boxes::MixingBox;
 use crate::joins::{inverses, join};

@@ -1,9 +1,9 @@
 -- What becomes of a pile that is fitted. Assumes nothing.
 use Rattle.std.specs.Prelude.{◌≡◌, ℕ, List, length, Result, Ok, Err, ◌==◌, if◌then◌else◌}
 use Rattle.std.specs.List.{sum_by}
-use Rattle.ciphers.specs.Maps.{SameMap}
 use Rattle.refusals.specs.declared.reasons.Refusal.TheVariants.{KeyLength}
 use Rattle.refusals.specs.declared.reasons.Refusal.{Refusal}
+use Rattle.ciphers.specs.Maps.{SameMap}
 use Rattle.plans.specs.declared.stages.Stage.{Stage}
 use Rattle.plans.specs.Plans.{and_then, plan_of}
 use Rattle.plans.specs.Stages.{key_length}

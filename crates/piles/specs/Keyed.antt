@@ -1,11 +1,11 @@
 -- What stages make of a block under the bytes of a key. Assumes nothing.
 use Rattle.std.specs.Prelude.{ℕ, List, [], ◌∷◌, drop, take}
 use Rattle.std.specs.Int.{from_be_bytes, w64, w128}
+use Rattle.whitening.specs.Whitening.{wadd, wxor}
+use Rattle.xtea.specs.Xtea.{xtea}
 use Rattle.des.specs.Des.{des}
 use Rattle.des.specs.Triple.{tdea, key_at}
 use Rattle.idea.specs.Idea.{idea}
-use Rattle.whitening.specs.Whitening.{wadd, wxor}
-use Rattle.xtea.specs.Xtea.{xtea}
 use Rattle.plans.specs.declared.stages.Stage.TheVariants.{Des, Ede2, Ede3, Idea, Xtea, Wxor, Wadd}
 use Rattle.plans.specs.declared.stages.Stage.{Stage}
 use Rattle.plans.specs.Stages.{key_length}

@@ -1,11 +1,11 @@
 -- The maps of a pile and of its layers. Assumes nothing.
 use Rattle.std.specs.Prelude.{ℕ, bit_xor, ◌^◌}
+use Rattle.groups.specs.Sums.{sum}
 use Rattle.ciphers.specs.Maps.{composed, in_turn}
+use Rattle.whitening.specs.Whitening.{joined_with}
+use Rattle.xtea.specs.Sealing as xtea
 use Rattle.des.specs.Sealing as des
 use Rattle.idea.specs.Sealing as idea
-use Rattle.xtea.specs.Sealing as xtea
-use Rattle.groups.specs.Sums.{sum}
-use Rattle.whitening.specs.Whitening.{joined_with}
 use Rattle.piles.specs.declared.layers.Layer.TheVariants.{Empty, Des, TripleDes, Idea, Xtea, Wxor, Wadd}
 use Rattle.piles.specs.declared.layers.Layer.{Layer}
 use Rattle.piles.specs.declared.pile.Pile.{Pile}
@@ -20,7 +20,7 @@ layered (Xtea c) b = xtea.sealing c b
 layered (Wxor c) b = joined_with bit_xor c.words b
 layered (Wadd c) b = joined_with (sum (2 ^ 32)) c.words b
 
--- the four layers, two pairs of pairs
+-- what the four layers, a pair of pairs, make of a block
 abbrev pub sealing : Pile → ℕ → ℕ
 sealing p =
     composed p.layers.reversed

@@ -3,7 +3,7 @@ use Rattle.std.specs.Prelude.{ℕ, zero, suc, ◌+◌, ◌*◌, ◌/◌, ◌%◌
 use Rattle.networks.specs.declared.pairs.Halves.{Halves}
 use Rattle.networks.specs.Halves.{halves_of, block_of}
 
--- ((z << 4 ^ z >> 5) + z) ^ k, of a half and a round word
+-- F of a half and a round word: ((z << 4 ^ z >> 5) + z) ^ k
 abbrev pub mixed : ℕ → ℕ → ℕ
 mixed z k = bit_xor ((bit_xor (16 * z % 2 ^ 32) (z / 32) + z) % 2 ^ 32) (k % 2 ^ 32)
 
@@ -23,7 +23,7 @@ first_word key j = (sum_of j + key_word key (sum_of j % 4)) % 2 ^ 32
 abbrev pub second_word : List ℕ → ℕ → ℕ
 second_word key j = (sum_of (j + 1) + key_word key (sum_of (j + 1) / 2048 % 4)) % 2 ^ 32
 
--- the left word gains of the right one, and then the right word of the new left one
+-- cycle j, from 0: the left half gains what F makes of the right one, and then the right half what F makes of the new left one
 abbrev pub cycle : List ℕ → ℕ → Halves ℕ → Halves ℕ
 cycle key j h =
     let y = (h.left + mixed h.right (first_word key j)) % 2 ^ 32 in

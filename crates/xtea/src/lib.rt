@@ -2,7 +2,7 @@
 //
 // Promises: the map of `Xtea::new` is XTEA as its authors' note defines it, for every key of sixteen bytes and 1 to 32
 // cycles; its round words are the note's. It is built as a Feistel network over the sum modulo 2^32 with a swap of the
-// halves behind it, so turning and undoing need no proof of their own.
+// halves behind it, so turning and undoing need no proof of their own. No call refuses.
 #![tactic(auto)]
 
 mod cipher;

@@ -1,8 +1,8 @@
 // XTEA's round function.
-ghost use Rattle.xtea.specs.Xtea.{mixed};
 ghost use Rattle.std.specs.Prelude.{◌+◌, ◌*◌, ◌/◌, ◌%◌, ◌^◌, bit_xor};
 ghost use Rattle.std.proofs.Common.{arith};
 ghost use Rattle.std.proofs.lemmas.Nat.{xor_lt};
+ghost use Rattle.xtea.specs.Xtea.{mixed};
 
 use networks::RoundFunction;
 
