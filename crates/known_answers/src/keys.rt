@@ -1,10 +1,11 @@
-// A key as its bytes, at most 96 of them, kept in the value itself. It is no other name of the library's vector, so that
-// nobody outside adds to a key.
+// A key as its bytes.
 ghost use Rattle.std.specs.Prelude.{◌≡◌, ◌<◌, ◌≤◌, [], ◌∷◌, ◌++◌, length};
 
 use arrayvec::ArrayVec;
 use std::marker::Model;
 
+// At most 96 bytes, kept in the value itself. It is no other name of the library's vector, so that nobody outside adds to a
+// key.
 #[derive(Drop)]
 pub struct KeyBytes {
     bytes: ArrayVec<u8, 96>,

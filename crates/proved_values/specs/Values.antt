@@ -1,10 +1,10 @@
 -- Known values, and the definitions that they are values of. Assumes nothing.
 use Rattle.std.specs.Prelude.{ℕ, [], ◌∷◌, Some, map, replicate}
 use Rattle.std.specs.List.{range_with_len}
-use Rattle.four_words.specs.Keying.{key_of}
-use Rattle.four_words.specs.Turning.{turned_key}
 use Rattle.products.specs.Products.{product}
 use Rattle.whitening.specs.Whitening.{wadd}
+use Rattle.four_words.specs.Keying.{key_of}
+use Rattle.four_words.specs.Turning.{turned_key}
 use Rattle.xtea.specs.Xtea.{xtea}
 use Rattle.des.specs.Boxes.{boxed}
 use Rattle.des.specs.Des.{des}

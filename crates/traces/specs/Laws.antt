@@ -11,8 +11,7 @@ use Rattle.traces.specs.Files.{Closed}
 use Rattle.traces.specs.Headers.{label_of}
 use Rattle.traces.specs.Opening.{Gives, Opens, judged_plain, start_of}
 
--- all that was closed is given back: the label is answered, the start stands in the file, and the plain is written to the
--- output, where there is room for it
+-- what was closed is given back: the label, the start, which stands in the file, and the plain, where there is room for it
 pub record GivenBack (label : Label) (start plain file before : List ℕ) (result : Result Opened Refusal) (after : List ℕ) : Type 0 where
   pub header : Header
   pub same_label : label_of header ≡ label
@@ -35,7 +34,7 @@ pub record OpenedTo (S : ℕ → ℕ) (file : List ℕ) (label : Label) (start p
   pub same_start : start_of file ≡ start
   pub same_plain : take opened.length after ≡ plain
 
--- the same, once the room is judged
+-- what is answered and left of an output once the room for a file is judged; refused, it is as it was
 abbrev pub WritesBy : Result ℕ Refusal → List ℕ → List ℕ → Result ℕ Refusal → List ℕ → Type 0
 WritesBy (Err refusal) file before result after = (result ≡ Err refusal) × (after ≡ before)
 WritesBy (Ok n) file before result after = (result ≡ Ok n) × (after ≡ file ++ drop n before)

@@ -1,8 +1,8 @@
 // Runs sealed and opened on a bench, to which the pile is lent.
 ghost use Rattle.std.specs.Prelude.{◌≡◌, ◌%◌, ◌≤◌, length};
+ghost use Rattle.ciphers.specs.Maps.{Inverse, SameMap};
 ghost use Rattle.chaining.specs.declared.direction.Direction.TheVariants.{Opening, Sealing};
 ghost use Rattle.chaining.specs.Runs.{Rewritten};
-ghost use Rattle.ciphers.specs.Maps.{Inverse, SameMap};
 ghost use Rattle.piles.specs.Layers.{sealing};
 ghost use Rattle.traces.specs.Files.{OnlyRun};
 

@@ -1,8 +1,8 @@
 -- A session on two benches over XTEA. Assumes nothing.
 use Rattle.std.specs.Prelude.{ℕ, List}
+use Rattle.ciphers.specs.Maps.{SameMap}
 use Rattle.chaining.specs.declared.calls.Call.{Call}
 use Rattle.chaining.specs.Benches.{State}
-use Rattle.ciphers.specs.Maps.{SameMap}
 use Rattle.chaining.specs.Mirrors.{Mirrored, GivenBack}
 use Rattle.xtea.specs.Xtea.{xtea}
 

@@ -1,7 +1,7 @@
 // A session on two benches over XTEA.
+ghost use Rattle.ciphers.specs.Maps.{SameMap};
 ghost use Rattle.chaining.specs.Benches.{state_of};
 ghost use Rattle.chaining.specs.Mirrors.{SessionLaw};
-ghost use Rattle.ciphers.specs.Maps.{SameMap};
 ghost use Rattle.xtea.specs.Sealing.{sealing};
 ghost use Rattle.xtea.specs.Xtea.{xtea};
 ghost use Rattle.transcripts.specs.ReturnTrip.{Returned};
