@@ -1,0 +1,71 @@
+#!/usr/bin/env python3
+"""Runs the gate's proofs from nothing, and prints what each crate costs: processor seconds for the crate and its tests, and
+for its must-fail edits.
+
+It looks at the running processes several times a second, so that a number may be a little short. The gate's own output goes
+to the file that is named as the only argument.
+"""
+import collections
+import os
+import pathlib
+import re
+import subprocess
+import sys
+import time
+
+TICKS = os.sysconf("SC_CLK_TCK")
+PAUSE = 0.2
+
+
+def seconds(process):
+    """The processor seconds of a process so far: fields 14 and 15 of its status line, after the name in brackets."""
+    fields = (process / "stat").read_text().rpartition(")")[2].split()
+    return (int(fields[11]) + int(fields[12])) / TICKS
+
+
+def work(process):
+    """The crate that a process works for, and whether it tries an edit; or None."""
+    words = (process / "cmdline").read_bytes().split(b"\0")
+    if not words[0].endswith(b"/rattle") or b"--crate-name" not in words:
+        return None
+    crate = words[words.index(b"--crate-name") + 1].decode()
+    return crate, os.readlink(process / "cwd").startswith("/tmp/rt-edit")
+
+
+def look(seen):
+    """Notes what each process of the prover has taken so far; one that has ended keeps what was noted last."""
+    for process in pathlib.Path("/proc").iterdir():
+        if not process.name.isdigit():
+            continue
+        try:
+            if kind := work(process):
+                seen[process.name, kind] = seconds(process)
+        except (OSError, IndexError, ValueError):
+            pass
+
+
+def run(log):
+    seen, start = {}, time.time()
+    with open(log, "w", encoding="utf-8") as out:
+        gate = subprocess.Popen(["rt", "ci", "--anew"], stdout=out, stderr=subprocess.STDOUT)
+        while gate.poll() is None:
+            look(seen)
+            time.sleep(PAUSE)
+    return seen, time.time() - start
+
+
+def main():
+    seen, took = run(sys.argv[1])
+    costs = collections.Counter()
+    for (_, kind), spent in seen.items():
+        costs[kind] += spent
+    order = re.findall(r"^(\w+)(?: staticlib)?:", pathlib.Path("crates.txt").read_text(), re.M)
+    print("| crate | proofs and tests | edits | their time | together |\n|---|---|---|---|---|")
+    for crate in order:
+        proofs, edits = costs[crate, False], costs[crate, True]
+        count = len(list(pathlib.Path(f"crates/{crate}/must-fail").glob("*.edit")))
+        print(f"| `{crate}` | {proofs:.0f} s | {count} | {edits:.0f} s | {proofs + edits:.0f} s |")
+    print(f"\n{sum(costs.values()) / 60:.1f} processor minutes, in {took / 60:.1f} minutes")
+
+
+main()
