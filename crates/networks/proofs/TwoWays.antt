@@ -58,7 +58,7 @@ module _ {W : Type 0} {fits : W → Type 0} {neutral : W} (N : Network W) (laws 
   ran_fits h p = let both = rounds_fits N.words h p in (both.1, both.0)
 
 -- a second turn takes the first back
-pub turned_twice : {W : Type 0} (N : Network W) → turned (turned N) ≡ N
+turned_twice : {W : Type 0} (N : Network W) → turned (turned N) ≡ N
 turned_twice N =
     ap₂ (λ b ws. record { joined = N.joined; inverted = N.inverted; function = N.function; inverting = b; words = ws })
     (not-not N.inverting) (reverse-reverse N.words)
