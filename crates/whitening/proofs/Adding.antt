@@ -1,25 +1,16 @@
 -- Words joined to the halves of a block, and then their inverses. Assumes nothing.
-use Rattle.std.proofs.Common.{◌≡◌, ℕ, ◌^◌, ◌<◌, arith, ap, ap₂, ◌∙◌}
+use Rattle.std.proofs.Common.{◌≡◌, ℕ, ◌^◌, ◌<◌, ap, ap₂, ◌∙◌}
 use Rattle.groups.specs.Laws.{Lawful}
 use Rattle.groups.proofs.Cancelling.{taken_back, brought_back}
 use Rattle.networks.specs.declared.pairs.Halves.{Halves}
 use Rattle.networks.specs.Halves.{Words, halves_of, block_of}
-use Rattle.networks.proofs.Splits.{halves_block}
+use Rattle.networks.proofs.Splits.{block_fits, block_halves, halves_block, halves_fit}
 use Rattle.ciphers.specs.Maps.{Inverse}
 use Rattle.whitening.specs.Whitening.{inverses, joined_with}
 
 -- the words of 32 bits
 abbrev Word : ℕ → Type 0
 Word x = x < 2 ^ 32
-
-pub halves_fit : (b : ℕ) → b < 2 ^ 64 → Words Word (halves_of b)
-halves_fit b p = (omega arith, omega arith)
-
-block_fits : (h : Halves ℕ) → Words Word h → block_of h < 2 ^ 64
-block_fits h p = omega arith
-
-block_halves : (b : ℕ) → block_of (halves_of b) ≡ b
-block_halves b = omega arith
 
 module _ {neutral : ℕ} {joined : ℕ → ℕ → ℕ} {inverted : ℕ → ℕ} (laws : Lawful Word neutral joined inverted) where
   -- halves joined with words
@@ -37,7 +28,7 @@ module _ {neutral : ℕ} {joined : ℕ → ℕ → ℕ} {inverted : ℕ → ℕ}
   below ws b q p = block_fits (added ws (halves_of b)) (added_fits ws (halves_of b) q (halves_fit b p))
 
   -- the inverses take the words back
-  pub back : (ws : Halves ℕ) (b : ℕ) → Words Word ws → b < 2 ^ 64 → joined_with joined (inverses inverted ws) (joined_with joined ws b) ≡ b
+  back : (ws : Halves ℕ) (b : ℕ) → Words Word ws → b < 2 ^ 64 → joined_with joined (inverses inverted ws) (joined_with joined ws b) ≡ b
   back ws b q p =
       let h = halves_of b in
       let fits = halves_fit b p in
