@@ -1,4 +1,5 @@
 pub mod Agreement
+pub mod Filling
 pub mod Lists
 pub mod Progress
 pub mod Splitting

@@ -1,12 +1,13 @@
 -- Running a four-word network and undoing it take each other back. Assumes nothing.
 use Rattle.std.proofs.Common.{◌≡◌, ℕ, ◌<◌, ◌^◌, subst, List, [], ◌∷◌, reverse, sym, refl, ap, ◌∙◌, bit_xor}
-use Rattle.std.specs.Int.Bits.{xor_assoc, xor_comm, xor_self, xor_zero_r}
+use Rattle.std.specs.Int.Bits.{xor_assoc, xor_comm, xor_self}
 use Rattle.std.proofs.lemmas.Nat.{xor_lt}
 use Rattle.std.specs.List.{fold}
 use Rattle.groups.specs.Laws.{Lawful}
 use Rattle.groups.proofs.Cancelling.{brought_back, taken_back}
 use Rattle.networks.specs.Inverses.{Inverses}
 use Rattle.networks.proofs.Folds.{fold_reverse_cons}
+use Rattle.ciphers.proofs.Blocks.{xor_twice}
 use Rattle.four_words.specs.declared.words.BoxWords.{BoxWords}
 use Rattle.four_words.specs.declared.words.RoundWords.{RoundWords}
 use Rattle.four_words.specs.declared.words.Words.{Words}
@@ -41,9 +42,6 @@ same_xor : (a b t : ℕ) → bit_xor (bit_xor a t) (bit_xor b t) ≡ bit_xor a b
 same_xor a b t =
     xor_assoc a t (bit_xor b t)
     ∙ ap (bit_xor a) (ap (bit_xor t) (xor_comm b t) ∙ sym (xor_assoc t t b) ∙ ap (λ x. bit_xor x b) (xor_self t))
-
-xor_twice : (a t : ℕ) → bit_xor (bit_xor a t) t ≡ a
-xor_twice a t = xor_assoc a t t ∙ ap (bit_xor a) (xor_self t) ∙ xor_zero_r a
 
 module _ {outer_neutral inner_neutral : ℕ} (N : Network)
     (outer : Lawful Fits outer_neutral N.groups.outer N.groups.outer_inverse)

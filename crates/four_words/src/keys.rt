@@ -1,7 +1,7 @@
 // The words of a network's rounds, kept in the value itself: they are secrets.
 ghost use Rattle.std.specs.Prelude.{◌≡◌, ◌≤◌, length, reverse};
 ghost use Rattle.four_words.specs.Joining.{both};
-ghost use Rattle.four_words.specs.Keying.{AllFit, KeyFits, four_at, key_of, round_at};
+ghost use Rattle.four_words.specs.Keying.{KeyFits, four_at, key_of, round_at};
 ghost use Rattle.four_words.specs.Turning.{turned_key};
 
 use crate::counts::Rounds;

@@ -5,7 +5,7 @@ ghost use Rattle.four_words.specs.Joining.{both};
 ghost use Rattle.four_words.specs.Keying.{KeyFits};
 ghost use Rattle.four_words.specs.Networks.{network};
 ghost use Rattle.four_words.specs.Passing.{added, mixed, ran, round, turned, unran, unround};
-ghost use Rattle.four_words.specs.Quarters.{Fit, exchanged};
+ghost use Rattle.four_words.specs.Quarters.{Fit};
 ghost use Rattle.four_words.specs.Turning.{TurnedWords};
 
 use crate::boxes::MixingBox;
