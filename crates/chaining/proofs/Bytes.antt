@@ -5,31 +5,26 @@ use Rattle.std.proofs.lemmas.Bool.{cases_lt}
 use Rattle.std.proofs.lemmas.List.{ext_get_or, places}
 use Rattle.std.proofs.lemmas.List.Edits.{get_or-between}
 use Rattle.std.proofs.lemmas.Nat.{be_bytes_8}
+use Rattle.ciphers.proofs.Blocks.{bytes_below}
 use Rattle.chaining.specs.Runs.{Bytes, block}
+
+-- the bytes of a part are bytes
+pub part_bytes : (xs : List ℕ) (i j : ℕ) → Bytes xs → Bytes (slice_range xs i j)
+part_bytes xs i j b k = ⊎_elim
+    (λ p. search (places, arith))
+    (λ p. search (places, arith))
+    (cases_lt k (length (slice_range xs i j)))
 
 -- the bytes of block i
 abbrev bytes_of : List ℕ → ℕ → List ℕ
 bytes_of xs i = slice_range xs (8 * i) (8 * i + 8)
 
 Bytes-bytes_of : (xs : List ℕ) (i : ℕ) → Bytes xs → Bytes (bytes_of xs i)
-Bytes-bytes_of xs i b k = ⊎_elim
-    (λ p. search (places, arith))
-    (λ p. search (places, arith))
-    (cases_lt k (length (bytes_of xs i)))
+Bytes-bytes_of xs i = part_bytes xs (8 * i) (8 * i + 8)
 
 -- bytes make a block
 pub block_lt : (xs : List ℕ) (i : ℕ) → Bytes xs → block xs i < 2 ^ 64
-block_lt xs i b =
-    let p : Bytes (bytes_of xs i) = Bytes-bytes_of xs i b in
-    let p0 = p 0 in
-    let p1 = p 1 in
-    let p2 = p 2 in
-    let p3 = p 3 in
-    let p4 = p 4 in
-    let p5 = p 5 in
-    let p6 = p 6 in
-    let p7 = p 7 in
-    omega arith
+block_lt xs i b = bytes_below (bytes_of xs i) (Bytes-bytes_of xs i b)
 
 -- equal blocks have equal bytes
 same_block : (xs ys : List ℕ) (i : ℕ) → Bytes xs → Bytes ys → length ys ≡ length xs → 8 * i + 8 ≤ length xs → block ys i ≡ block xs i → bytes_of ys i ≡ bytes_of xs i

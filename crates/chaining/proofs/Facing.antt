@@ -1,17 +1,9 @@
 -- Benches that face each other stay so over turns. Assumes nothing.
 use Rattle.std.proofs.Common.{◌≡◌, ℕ, ◌^◌, ◌<◌, IfSome, sym, ap, ◌∙◌, subst}
 use Rattle.ciphers.specs.Maps.{Inverse, SameMap}
+use Rattle.ciphers.proofs.Same.{inverse_same}
 use Rattle.chaining.specs.Benches.{State, other, begun, Turned}
 use Rattle.chaining.specs.Mirrors.{Facing}
-
--- an inverse of a map is an inverse of the same map
-inverse_same : (f g h : ℕ → ℕ) → SameMap f g → Inverse g h → Inverse f h
-inverse_same f g h e i = record {
-  keeps = λ b p. subst (λ n. n < 2 ^ 64) (sym (e b p)) (i.keeps b p);
-  keeps_back = i.keeps_back;
-  back = λ b p. ap h (e b p) ∙ i.back b p;
-  forth = λ b p. e (h b) (i.keeps_back b p) ∙ i.forth b p;
-}
 
 -- the inverses of two maps that undo each other undo each other
 inverse_turned : (f g f' g' : ℕ → ℕ) → Inverse f g → Inverse f f' → Inverse g g' → Inverse f' g'
@@ -26,7 +18,7 @@ inverse_turned f g f' g' i j k =
     }
 
 pub facing_begun : (f g : ℕ → ℕ) (t : State) → SameMap f g → Turned (begun g) t → Facing (begun f) t
-facing_begun f g t e u = record { maps = inverse_same f g t.map e u.map; directions = u.direction; chains = u.chain; block = tt }
+facing_begun f g t e u = record { maps = inverse_same e u.map; directions = u.direction; chains = u.chain; block = tt }
 
 pub facing_turned : (s t s' t' : State) → Facing s t → Turned s s' → Turned t t' → Facing s' t'
 facing_turned s t s' t' a u v = record {

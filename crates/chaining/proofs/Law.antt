@@ -9,7 +9,7 @@ use Rattle.chaining.proofs.Facing.{facing_begun}
 use Rattle.chaining.proofs.Mirroring.{does_mirrored}
 
 -- benches that face each other, over a session
-pub record Faced (there : List Exchange) (back : List Exchange) (s : State) (t : State) : Type 0 where
+record Faced (there : List Exchange) (back : List Exchange) (s : State) (t : State) : Type 0 where
   pub calls : CallByCall there back
   pub after : Facing (last_of s there) (last_of t back)
 

@@ -1,17 +1,14 @@
 -- A run that was sealed is opened to what it was, and one that was opened is sealed to what it was. Assumes nothing.
 use Rattle.std.proofs.Common.{◌≡◌, ℕ, zero, suc, ◌/◌, ◌%◌, ◌^◌, ◌<◌, ◌≤◌, List, length, sym, refl, ap, ◌∙◌, subst, ap₂, arith}
-use Rattle.std.specs.Int.Bits.{bit_xor, xor_assoc, xor_self, xor_zero_r}
+use Rattle.std.specs.Int.Bits.{bit_xor}
 use Rattle.std.proofs.lemmas.Nat.{xor_lt}
 use Rattle.ciphers.specs.Maps.{Inverse}
+use Rattle.ciphers.proofs.Blocks.{xor_twice}
 use Rattle.chaining.specs.declared.direction.Direction.TheVariants.{Sealing, Opening}
 use Rattle.chaining.specs.declared.direction.Direction.{Direction}
 use Rattle.chaining.specs.Benches.{other}
 use Rattle.chaining.specs.Runs.{Bytes, block, before, Rewritten, chain_after}
 use Rattle.chaining.proofs.Bytes.{block_lt, same_bytes}
-
--- to xor twice with a word changes nothing
-pub xor_twice : (a p : ℕ) → bit_xor (bit_xor a p) p ≡ a
-xor_twice a p = xor_assoc a p p ∙ ap (bit_xor a) (xor_self p) ∙ xor_zero_r a
 
 -- a sealed block before another is a block
 pub before_lt : (r : ℕ) (xs : List ℕ) (i : ℕ) → r < 2 ^ 64 → Bytes xs → before r xs i < 2 ^ 64

@@ -19,7 +19,7 @@ last_push s (y ∷ ys) x = last_push y.after ys x
 push_same : {X Y Z : Type 0} (f : X → Z) (g : Y → Z) (xs : List X) (ys : List Y) (x : X) (y : Y) → map f xs ≡ map g ys → f x ≡ g y → map f (xs ++ x ∷ []) ≡ map g (ys ++ y ∷ [])
 push_same f g xs ys x y e q = map-append f xs (x ∷ []) ∙ (λ t. e t ++ (q t ∷ [])) ∙ sym (map-append g ys (y ∷ []))
 
-pub served_push : (s t u : State) (calls served : List Call) (call now : Call) → Served s calls served t → ServedCall t call now u → Served s (calls ++ call ∷ []) (served ++ now ∷ []) u
+served_push : (s t u : State) (calls served : List Call) (call now : Call) → Served s calls served t → ServedCall t call now u → Served s (calls ++ call ∷ []) (served ++ now ∷ []) u
 served_push s t u calls served call now v w =
     let x : Exchange = record { brought = asked call.request; answer = w.answer; left = asked now.request; after = u } in
     record {
