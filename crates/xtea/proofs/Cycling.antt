@@ -4,7 +4,7 @@ use Rattle.std.proofs.lemmas.List.Sums.{fold-append}
 use Rattle.networks.specs.declared.pairs.Halves.{Halves}
 use Rattle.networks.specs.Halves.{Words, swapped, halves_of, block_of}
 use Rattle.networks.specs.Rounds.{Network, round, rounds}
-use Rattle.networks.proofs.Splits.{halves_block}
+use Rattle.networks.proofs.Splits.{halves_block, halves_fit}
 use Rattle.ciphers.specs.Blocks.{feistel, halves_swapped}
 use Rattle.ciphers.specs.Maps.{SameMap, composed}
 use Rattle.xtea.specs.Sealing.{network_of}
@@ -32,9 +32,8 @@ cycled_words key (suc j) h p = (omega arith, omega arith)
 sealed : (key : List ℕ) (c b : ℕ) → b < 2 ^ 64 → halves_swapped (feistel (plain (words_of key c)) b) ≡ xtea key c b
 sealed key c b block =
     let h = halves_of b in
-    let words : Words (λ x. x < 2 ^ 32) h = (omega arith, omega arith) in
     ap (λ g. halves_swapped (block_of (swapped g))) (rounds_cycled key (words_of key c) c h)
-    ∙ swapped_back (cycled key c h) (cycled_words key c h words)
+    ∙ swapped_back (cycled key c h) (cycled_words key c h (halves_fit b block))
 
 -- a new cipher: neither its order nor its network is turned
 pub sealed_new : (reversed turned : Bool) (key ws : List ℕ) (c : ℕ) → reversed ≡ false → turned ≡ false → ws ≡ words_of key c

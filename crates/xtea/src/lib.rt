@@ -12,4 +12,3 @@ mod rounding;
 
 pub use cipher::Xtea;
 pub use cycles::Cycles;
-pub use rounding::XteaRound;
