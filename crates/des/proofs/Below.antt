@@ -5,7 +5,7 @@ use Rattle.des.specs.Des.{des, through}
 use Rattle.des.specs.Tables.{final}
 use Rattle.des.specs.Triple.{tdea}
 
-through_below : (words : List ℕ) (b : ℕ) → through words b < 2 ^ 64
+pub through_below : (words : List ℕ) (b : ℕ) → through words b < 2 ^ 64
 unfolding through
 through_below words b = picked_fits 64 final _ refl
 

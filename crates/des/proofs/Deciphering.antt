@@ -1,10 +1,10 @@
 -- Deciphering is the inverse of enciphering. Assumes nothing.
-use Rattle.std.proofs.Common.{◌≡◌, ℕ, ◌^◌, ◌<◌, false, List, reverse, refl, sym, subst, ap, ◌∙◌, arith}
+use Rattle.std.proofs.Common.{◌≡◌, ℕ, ◌^◌, ◌<◌, false, List, reverse, refl, sym, subst, ap, ◌∙◌}
 use Rattle.std.proofs.lemmas.List.{reverse-reverse}
 use Rattle.groups.specs.Xor.{xor_lawful}
-use Rattle.networks.proofs.Splits.{halves_block}
+use Rattle.networks.proofs.Splits.{block_fits, block_halves, halves_block, halves_fit}
 use Rattle.networks.proofs.TwoWays.{inverses}
-use Rattle.networks.specs.Halves.{halves_of, block_of, Words}
+use Rattle.networks.specs.Halves.{halves_of, block_of}
 use Rattle.networks.specs.Rounds.{ran, turned}
 use Rattle.ciphers.specs.Blocks.{feistel}
 use Rattle.ciphers.specs.Maps.{Inverse}
@@ -12,6 +12,7 @@ use Rattle.selections.proofs.Inverse.{inverse_after, inverse_before}
 use Rattle.selections.proofs.Picked.{picked_below}
 use Rattle.selections.specs.Permutations.{NamesEachOnce}
 use Rattle.selections.specs.Selections.{picked}
+use Rattle.des.proofs.Below.{through_below}
 use Rattle.des.proofs.Ciphering.{final_is}
 use Rattle.des.proofs.Complement.{f_below}
 use Rattle.des.specs.Des.{through, des, deciphered}
@@ -34,22 +35,15 @@ through_back : (ks : List ℕ) (b : ℕ) → b < 2 ^ 64 → through (reverse ks)
 unfolding through
 through_back ks b p =
     let start = picked 64 initial b in
-    let below : start < 2 ^ 64 = picked_below 64 b initial in
-    let words : Words (λ x. x < 2 ^ 32) (halves_of start) = (omega arith, omega arith) in
+    let words = halves_fit start (picked_below 64 b initial) in
     let made = ran (network_of false ks) (halves_of start) in
     let both = inverses (network_of false ks) xor_lawful f_below in
     let fit = both.keeps (halves_of start) words in
-    let block : block_of made < 2 ^ 64 = omega (arith, fit.0, fit.1) in
-    let whole : block_of (halves_of start) ≡ start = omega arith in
-    ap (λ x. picked 64 final (feistel (turned (network_of false ks)) x)) (last_first (block_of made) block)
+    ap (λ x. picked 64 final (feistel (turned (network_of false ks)) x)) (last_first (block_of made) (block_fits made fit))
     ∙ ap (λ h. picked 64 final (block_of (ran (turned (network_of false ks)) h))) (halves_block made fit)
     ∙ ap (λ h. picked 64 final (block_of h)) (both.back (halves_of start) words)
-    ∙ ap (picked 64 final) whole
+    ∙ ap (picked 64 final) (block_halves start)
     ∙ first_last b p
-
-through_below : (ks : List ℕ) (b : ℕ) → through ks b < 2 ^ 64
-unfolding through
-through_below ks b = picked_below 64 _ final
 
 pub des_inverse : (key : ℕ) → Inverse (des key) (deciphered key)
 des_inverse key =

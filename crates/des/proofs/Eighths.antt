@@ -1,8 +1,8 @@
 -- DES does not look at the eighth bits of its key's bytes. Assumes nothing.
-use Rattle.std.proofs.Common.{rules, ◌≡◌, ◌≢◌, ℕ, ◌%◌, ◌/◌, ◌^◌, Bool, true, false, not, refl, sym, ap, ◌∙◌}
+use Rattle.std.proofs.Common.{rules, ◌≡◌, ◌≢◌, ℕ, ◌%◌, ◌/◌, ◌^◌, Bool, true, false, not, sym, ap, ◌∙◌}
 use Rattle.std.specs.Prelude.{◌==◌, ◌&&◌, nat_le}
 use Rattle.std.specs.List.{AllByRecursion}
-use Rattle.std.proofs.lemmas.Bool.{eq-eqb, leb-true, false≢true}
+use Rattle.std.proofs.lemmas.Bool.{and_parts, eq-eqb, leb-true, false≢true}
 use Rattle.selections.specs.Selections.{bit}
 use Rattle.selections.proofs.Picked.{picked_same}
 use Rattle.des.specs.Des.{through, des}
@@ -13,19 +13,14 @@ use Rattle.des.specs.Tables.{choice_1, shifts}
 abbrev looked_at : ℕ → Bool
 looked_at i = nat_le 1 i && nat_le i 64 && not (i % 8 == 0)
 
-and_parts : (a b c : Bool) → (a && b && c) ≡ true → (a ≡ true) × (b ≡ true) × (c ≡ true)
-and_parts true true true e = (refl, refl, refl)
-and_parts true true false e = absurd (false≢true e)
-and_parts true false c e = absurd (false≢true e)
-and_parts false b c e = absurd (false≢true e)
-
 apart : (i : ℕ) → not (i % 8 == 0) ≡ true → i % 8 ≢ 0
 apart i t e = absurd (false≢true (sym (ap not (eq-eqb (i % 8) 0 e)) ∙ t))
 
 same_at : (k l : ℕ) → SameButEighths k l → (i : ℕ) → looked_at i ≡ true → bit 64 k i ≡ bit 64 l i
 same_at k l same i t =
-    let parts = and_parts _ _ _ t in
-    same i (leb-true 1 i parts.0) (leb-true i 64 parts.1) (apart i parts.2)
+    let both = and_parts _ _ t in
+    let within = and_parts _ _ both.0 in
+    same i (leb-true 1 i within.0) (leb-true i 64 within.1) (apart i both.1)
 
 choice_looks : AllByRecursion (λ i. looked_at i ≡ true) choice_1
 choice_looks = search rules

@@ -89,7 +89,7 @@ module _ (digit : ℕ → ℕ) (few : (i : ℕ) → digit i < 16) where
       (last_digit h (digit i) (4 * n) (few i) ∙ ap₂ (λ a b. bit_xor (picked 32 permutation (h * 2 ^ a)) (picked 32 permutation (digit i * 2 ^ b))) more here)
 
 -- what the boxes add, all eight xored
-abbrev pub shares : ℕ → ℕ → ℕ
+abbrev shares : ℕ → ℕ → ℕ
 shares half word = fold (λ out i. bit_xor out (share half word i)) 0 (range_with_len 0 8)
 
 -- the round function is that

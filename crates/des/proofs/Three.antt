@@ -3,18 +3,10 @@ use Rattle.std.proofs.Common.{◌≡◌, ℕ, zero, suc, ◌+◌, ◌*◌, ◌^�
 use Rattle.std.proofs.lemmas.List.{drop-drop}
 use Rattle.std.specs.Simd.{first_chunks}
 use Rattle.ciphers.specs.Maps.{SameMap, Inverse, in_turn}
+use Rattle.ciphers.proofs.Same.{inverse_same}
 use Rattle.des.proofs.Deciphering.{des_inverse}
 use Rattle.des.specs.Des.{des, deciphered}
 use Rattle.des.specs.Triple.{tdea}
-
--- what undoes a map undoes the same map
-inverse_same : {m f g : ℕ → ℕ} → SameMap m f → Inverse f g → Inverse m g
-inverse_same {m} {f} {g} same inverse = record {
-  keeps = λ b p. rw (same b p) (inverse.keeps b p);
-  keeps_back = inverse.keeps_back;
-  back = λ b p. ap g (same b p) ∙ inverse.back b p;
-  forth = λ b p. same (g b) (inverse.keeps_back b p) ∙ inverse.forth b p;
-}
 
 -- ciphers whose maps are DES under three keys, where what they make together goes by any inverse of the second's map
 pub three : (m1 m2 m3 r : ℕ → ℕ) (k1 k2 k3 : ℕ) → SameMap m1 (des k1) → SameMap m2 (des k2) → SameMap m3 (des k3)

@@ -1,5 +1,5 @@
 // The S-boxes: six bits to four.
-ghost use Rattle.std.specs.Prelude.{◌≡◌, ℕ, ◌+◌, ◌-◌, ◌*◌, ◌/◌, ◌%◌, ◌<◌, ◌≤◌, ◌&&◌, nat_le, nat_lt, IfSome, if◌then◌else◌};
+ghost use Rattle.std.specs.Prelude.{◌≡◌, ℕ, ◌+◌, ◌-◌, ◌*◌, ◌/◌, ◌%◌, ◌<◌, ◌&&◌, nat_le, nat_lt, IfSome, if◌then◌else◌};
 ghost use Rattle.des.specs.Boxes.{box_numbers, boxed, row_of, column_of, row_of_box, times_in};
 
 use crate::tables::BOXES;
@@ -26,7 +26,7 @@ fn place(index: usize, six: usize) -> usize
 
 // What box `index + 1` makes of six bits: four bits, and the row that has them has them once.
 #[tactic(auto, using(crate::proofs::Rows::entry, crate::proofs::Rows::boxed_fits, crate::proofs::Rows::row_once))]
-pub(crate) fn substitute(index: usize, six: usize) -> u8
+fn substitute(index: usize, six: usize) -> u8
     requires eight { index < 8 }
     requires six { six < 64 }
     ensures value { result ≡ boxed index six }

@@ -15,7 +15,7 @@ fn exchange(block: u64, places: u32, mask: u64) -> u64
     block ^ differing ^ (differing << places)
 }
 
-pub struct Initial;
+pub(crate) struct Initial;
 
 impl Permutation for Initial {
     ghost table = { initial };

@@ -20,5 +20,4 @@ mod triple;
 pub use boxes::s_box;
 pub use cipher::Des;
 pub use opposites::{Sealed, seal_both};
-pub use rounding::DesRound;
 pub use triple::{TripleDes, ede2, ede3};

@@ -53,7 +53,7 @@ fn share(half: u32, word: u64, index: u32) -> u32
 }
 
 #[derive(Clone, Copy)]
-pub struct DesRound;
+pub(crate) struct DesRound;
 
 impl RoundFunction for DesRound {
     type Half = u32;
