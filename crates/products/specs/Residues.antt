@@ -1,8 +1,8 @@
 -- Products modulo 65,537 make a group of the words of 16 bits. A proof, which a reader need not believe. Assumes nothing.
-use Rattle.std.proofs.Common.{◌≡◌, ℕ, zero, suc, ◌+◌, ◌*◌, ◌%◌, ◌^◌, ◌<◌, ◌≤◌, Bool, true, false, ◌&&◌, refl, sym, ap, ◌∙◌, arith, ⊎_elim}
+use Rattle.std.proofs.Common.{◌≡◌, ℕ, zero, suc, ◌+◌, ◌*◌, ◌%◌, ◌^◌, ◌<◌, ◌≤◌, Bool, true, ◌&&◌, refl, sym, ap, ◌∙◌, arith, ⊎_elim}
 use Rattle.std.specs.Prelude.{◌==◌}
 use Rattle.std.proofs.Math.Nat.{mul_comm, mul_assoc, mul-zero, one-mul, pow-suc}
-use Rattle.std.proofs.lemmas.Bool.{cases_lt}
+use Rattle.std.proofs.lemmas.Bool.{and_parts, cases_lt}
 use Rattle.std.proofs.lemmas.Nat.{mul-mod_first, mul-mod_second}
 use Rattle.groups.specs.Laws.{Lawful}
 use Rattle.products.specs.Products.{number, word, product, squared, inverse}
@@ -25,16 +25,12 @@ upper_words : every 15 32768 ≡ true
 unfolding every passes product squared inverse
 upper_words = refl
 
-both : (a b : Bool) → (a && b) ≡ true → (a ≡ true) × (b ≡ true)
-both true b t = (refl, t)
-both false b t = absurd (cc)
-
 -- what every says of one of its words
 one_passes : (k n x : ℕ) → every k n ≡ true → n ≤ x → x < 2 ^ k + n → passes x ≡ true
 unfolding every
 one_passes zero n x t low high = let e : x ≡ n = omega arith in rw e t
 one_passes (suc k) n x t low high =
-    let halves = both (every k n) (every k (2 ^ k + n)) t in
+    let halves = and_parts (every k n) (every k (2 ^ k + n)) t in
     ⊎_elim
     (λ below. one_passes k n x halves.0 low below)
     (λ above. one_passes k (2 ^ k + n) x halves.1 above (omega (arith, pow-suc 2 k)))

@@ -1,3 +1,4 @@
+-- What the loop of `squared` keeps. Assumes nothing.
 use Rattle.std.proofs.Common.{◌≡◌}
 use Rattle.products.specs.Products.{squared}
 use Rattle.products.proofs.product.squared.Given as goal
