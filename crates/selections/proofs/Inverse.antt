@@ -1,9 +1,9 @@
 -- A permutation of bits and the one by the inverse table undo each other. Assumes nothing.
 use Rattle.std.proofs.Common.{◌≡◌, ℕ, zero, suc, ◌+◌, ◌-◌, ◌*◌, ◌/◌, ◌%◌, ◌^◌, ◌<◌, ◌≤◌, Bool, true, false, cond, List, [], ◌∷◌, length, get_or, refl, sym, ap, ◌∙◌, arith, subst}
-use Rattle.std.specs.Prelude.{◌==◌, ◌&&◌}
+use Rattle.std.specs.Prelude.{◌==◌}
 use Rattle.std.specs.List.{fold, count_by, position_or_len}
 use Rattle.std.proofs.Math.Nat.{pow-suc}
-use Rattle.std.proofs.lemmas.Bool.{eqb-true, eq-eqb, leb-true, false≢true}
+use Rattle.std.proofs.lemmas.Bool.{and_parts, eqb-true, eq-eqb, leb-true}
 use Rattle.std.proofs.lemmas.List.FromFn.{get_or-map-range_with_len, length-map-range_with_len}
 use Rattle.std.proofs.lemmas.List.{get_or-replicate}
 use Rattle.std.proofs.lemmas.List.Sums.{sum_by-cons, get_or-le-sum_by, passes_at_first, AllPass-from_list_all}
@@ -25,7 +25,7 @@ module _ (w n : ℕ) where
       omega (arith, after (2 * out + bit w n i) table, after (0 + bit w n i) table, moved out (bit w n i) (2 ^ length table), ap (λ x. out * x) (pow-suc 2 (length table)))
 
   -- bit i of a selection is the bit that entry i names
-  pub bit_picked : (table : List ℕ) (i : ℕ) → i < length table → bit (length table) (picked w table n) (i + 1) ≡ bit w n (get_or table i 0)
+  bit_picked : (table : List ℕ) (i : ℕ) → i < length table → bit (length table) (picked w table n) (i + 1) ≡ bit w n (get_or table i 0)
   bit_picked [] i l = absurd (omega arith)
   bit_picked (x ∷ table) zero l =
       let place : suc (length table) - (0 + 1) ≡ length table = omega arith in
@@ -71,11 +71,6 @@ module _ (p : ℕ → Bool) where
   some_first : (xs : List ℕ) → count_by p xs ≡ 1 → position_or_len p xs < length xs
   some_first [] one = absurd (omega arith)
   some_first (x ∷ xs) one = first_step (p x) x xs refl one (some_first xs)
-
-and_parts : (a b : Bool) → (a && b) ≡ true → (a ≡ true) × (b ≡ true)
-and_parts true true e = (refl, refl)
-and_parts true false e = absurd (false≢true e)
-and_parts false b e = absurd (false≢true e)
 
 -- words with the same bits are equal
 same_bits : (w a b : ℕ) → a < 2 ^ w → b < 2 ^ w → ((i : ℕ) → i < w → bit w a (i + 1) ≡ bit w b (i + 1)) → a ≡ b

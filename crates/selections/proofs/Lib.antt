@@ -1,3 +1,3 @@
 pub mod Inverse
-pub mod Picked
 pub mod Linear
+pub mod Picked
