@@ -1,3 +1,2 @@
 pub mod Below
-pub mod Filling
 pub mod Passes

@@ -13,4 +13,3 @@ mod mixing;
 pub use cipher::Idea;
 pub use expansion::key_schedule;
 pub use four_words::{Rounds, Words};
-pub use mixing::IdeaBox;

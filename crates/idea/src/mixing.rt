@@ -1,5 +1,4 @@
 // IDEA's mixing box: two products and two sums.
-ghost use Rattle.products.specs.Products.{product};
 ghost use Rattle.idea.specs.Mixing.{mixed, mixed_fits};
 
 use four_words::{BoxWords, Mixed, MixingBox};
@@ -7,7 +6,7 @@ use groups::{Group, Sum16};
 use products::Product16;
 
 #[derive(Clone, Copy)]
-pub struct IdeaBox;
+pub(crate) struct IdeaBox;
 
 impl MixingBox for IdeaBox {
     ghost value = { λ _. mixed };
