@@ -1,11 +1,11 @@
 -- Where the parts of a file stand. Assumes nothing.
-use Rattle.std.proofs.Common.{◌≡◌, ℕ, ◌+◌, ◌^◌, ◌<◌, ◌≤◌, List, ◌++◌, length, take, drop, sym, refl, ap, ◌∙◌, ⊎_elim, arith, length-append}
+use Rattle.std.proofs.Common.{◌≡◌, ℕ, ◌+◌, ◌^◌, ◌<◌, ◌≤◌, List, ◌++◌, length, take, drop, sym, refl, ap, ◌∙◌, arith, length-append}
 use Rattle.std.specs.Prelude.{slice_range}
 use Rattle.std.specs.Int.{from_be_bytes, to_be_bytes, w64}
-use Rattle.std.proofs.lemmas.Bool.{cases_lt}
 use Rattle.std.proofs.lemmas.List.{take_at, drop_at, append_assoc, drop-drop, take-append-drop, places}
 use Rattle.std.proofs.lemmas.Nat.{be_bytes_8, from_be_bytes-to_be_bytes_8}
 use Rattle.chaining.specs.Runs.{Bytes, block}
+use Rattle.chaining.proofs.Bytes.{part_bytes}
 use Rattle.traces.specs.Opening.{body_of, start_of}
 
 -- a header, a start and a body
@@ -29,14 +29,7 @@ body_back header start body e = drop_at start body 8 e
 pub length-laid_out : (header : ℕ) (start body : List ℕ) → length start ≡ 8 → length (laid_out header start body) ≡ 16 + length body
 length-laid_out header start body e = omega (arith, e, length-append start body)
 
--- the bytes of a part are bytes
-part_bytes : (file : List ℕ) (i j : ℕ) → Bytes file → Bytes (slice_range file i j)
-part_bytes file i j b k = ⊎_elim
-    (λ p. search (places, arith))
-    (λ p. search (places, arith))
-    (cases_lt k (length (slice_range file i j)))
-
--- so are those of the start
+-- the start has bytes
 pub start_bytes : (file : List ℕ) → Bytes file → Bytes (start_of file)
 start_bytes file b = part_bytes file 8 16 b
 

@@ -4,11 +4,12 @@ use Rattle.std.specs.Int.{to_be_bytes, w64}
 use Rattle.std.proofs.lemmas.Nat.{from_be_bytes-to_be_bytes_8}
 use Rattle.std.specs.Int.Bits.{bit_xor}
 use Rattle.ciphers.specs.Maps.{Inverse, SameMap}
+use Rattle.ciphers.proofs.Blocks.{xor_twice}
 use Rattle.chaining.specs.declared.direction.Direction.TheVariants.{Sealing, Opening}
 use Rattle.chaining.specs.declared.direction.Direction.{Direction}
 use Rattle.chaining.specs.Runs.{block, before, Rewritten}
 use Rattle.chaining.proofs.Bytes.{block_lt}
-use Rattle.chaining.proofs.Passing.{run_back, xor_twice}
+use Rattle.chaining.proofs.Passing.{run_back}
 use Rattle.traces.specs.Files.{OnlyRun}
 
 -- the bytes of a number make it again

@@ -1,27 +1,22 @@
 -- Padding and its removal undo each other. Assumes nothing.
-use Rattle.std.proofs.Common.{◌≡◌, ℕ, zero, suc, ◌+◌, ◌-◌, ◌%◌, ◌≤◌, Bool, true, false, ◌&&◌, if◌then◌else◌, eqb, List, [], ◌∷◌, ◌++◌, length, get_or, drop, replicate, Some, None, sym, refl, ap, ap₂, ◌∙◌, arith, tests, length-append, length-drop, length-take-le}
+use Rattle.std.proofs.Common.{◌≡◌, ℕ, zero, suc, ◌+◌, ◌-◌, ◌%◌, ◌≤◌, Bool, true, false, if◌then◌else◌, eqb, List, [], ◌∷◌, ◌++◌, length, get_or, drop, replicate, Some, None, sym, refl, ap, ap₂, ◌∙◌, arith, tests, length-append, length-drop, length-take-le}
 use Rattle.std.specs.List.{list_all}
 use Rattle.std.specs.Int.{is_in_range}
-use Rattle.std.proofs.lemmas.Bool.{eqb-true, eq-eqb}
+use Rattle.std.proofs.lemmas.Bool.{and_from, and_parts, eqb-true, eq-eqb}
 use Rattle.std.proofs.lemmas.List.{take_at, drop_at, get_or-replicate, get_or-append_right, length-replicate, take-append-drop}
 use Rattle.traces.specs.Padding.{padded, padding, unpadded, without}
-
--- both of two tests hold
-both : (a b : Bool) → (a && b) ≡ true → (a ≡ true) × (b ≡ true)
-both true b e = (refl, e)
-both false b e = search
 
 -- bytes that are all the same are a replicate
 same_bytes : (n : ℕ) (xs : List ℕ) → list_all (λ b. eqb b n) xs ≡ true → xs ≡ replicate (length xs) n
 same_bytes n [] e = refl
 same_bytes n (x ∷ xs) e =
-    let p = both (eqb x n) (list_all (λ b. eqb b n) xs) e in
+    let p = and_parts (eqb x n) (list_all (λ b. eqb b n) xs) e in
     ap₂ (λ y ys. y ∷ ys) (eqb-true x n p.0) (same_bytes n xs p.1)
 
 -- and a replicate is of bytes that are all the same
 all_same : (n k : ℕ) → list_all (λ b. eqb b n) (replicate k n) ≡ true
 all_same n zero = refl
-all_same n (suc k) = ap₂ (λ a b. a && b) (eq-eqb n n refl) (all_same n k)
+all_same n (suc k) = and_from _ _ (eq-eqb n n refl) (all_same n k)
 
 -- the plain, where it is chosen
 chosen : (c : Bool) (xs ys : List ℕ) → c ≡ true → xs ≡ ys → (if c then Some xs else None) ≡ Some ys
@@ -48,7 +43,7 @@ without_of n plain p q =
     let k : length plain ≡ length run - n = omega (arith, length-append plain (replicate n n), length-replicate n n) in
     let rest : drop (length run - n) run ≡ replicate n n = drop_at plain (replicate n n) (length run - n) k in
     chosen _ _ _
-    (ap₂ (λ a b. a && b) (in_range n p q) (ap (list_all (λ b. eqb b n)) rest ∙ all_same n n))
+    (and_from _ _ (in_range n p q) (ap (list_all (λ b. eqb b n)) rest ∙ all_same n n))
     (take_at plain (replicate n n) (length run - n) k)
 
 -- the plain is that of its padded run
@@ -67,7 +62,7 @@ pub padded_unpadded : (run plain : List ℕ) → 8 ≤ length run → length run
 padded_unpadded run plain l m e =
     let n = get_or run (length run - 1) 0 in
     let c = chosen_back _ _ _ e in
-    let b = both (is_in_range 1 8 n) (list_all (λ b. eqb b n) (drop (length run - n) run)) c.0 in
+    let b = and_parts (is_in_range 1 8 n) (list_all (λ b. eqb b n) (drop (length run - n) run)) c.0 in
     let r = range_in n b.0 in
     let size : length plain ≡ length run - n = ap length c.1 ∙ length-take-le (length run - n) run (omega (arith, r.0, r.1)) in
     let count : padding (length plain) ≡ n = omega (arith, size, r.0, r.1) in

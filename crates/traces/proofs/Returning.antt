@@ -95,7 +95,7 @@ unfolding Opens
 accepted S file before o after p = accepted_by (judged_file file) S file before o after refl p
 
 -- a file that was opened is the closing of what it was opened to
-pub closing_of : (S : ℕ → ℕ) (file before : List ℕ) (o : Opened) (after : List ℕ) → Bytes file → Opens S file before (Ok o) after → Closed S (label_of o.header) (start_of file) (take o.length after) file
+closing_of : (S : ℕ → ℕ) (file before : List ℕ) (o : Opened) (after : List ℕ) → Bytes file → Opens S file before (Ok o) after → Closed S (label_of o.header) (start_of file) (take o.length after) file
 unfolding chain_of
 closing_of S file before o after b p =
     let a = accepted S file before o after p in

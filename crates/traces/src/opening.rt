@@ -17,17 +17,17 @@ use arrayvec::ArrayVec;
 use piles::Pile;
 use refusals::Refusal;
 
+// The shortest file, and the longest.
+const SHORTEST: usize = 24;
+
+const LONGEST: usize = 32_784;
+
 // What a file that was opened is labelled with, and how many bytes of plain it held.
 #[derive(Clone, Copy, Debug, PartialEq, Eq)]
 pub struct Opened {
     pub header: Header,
     pub length: usize,
 }
-
-// The shortest file, and the longest.
-const SHORTEST: usize = 24;
-
-const LONGEST: usize = 32_784;
 
 // The header of a file.
 #[tactic(auto, unfolding(crate::specs::Opening::judged_file))]
