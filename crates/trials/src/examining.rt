@@ -1,6 +1,4 @@
 // Known answers tried on the piles that they name.
-ghost use Rattle.std.specs.Prelude.{◌≡◌};
-ghost use Rattle.known_answers.specs.Vector.{contents};
 ghost use Rattle.trials.specs.Verdicts.{tried_on};
 
 use crate::judging::judge;
