@@ -1,8 +1,8 @@
 -- What is said of a known answer of the plain box. Assumes nothing.
-use Rattle.std.specs.Prelude.{ℕ, List, length, Some, None, Option, Err, ◌==◌, if◌then◌else◌}
+use Rattle.std.specs.Prelude.{ℕ, length, Some, None, Option, Err, ◌==◌, if◌then◌else◌}
 use Rattle.known_answers.specs.declared.tally.Fault.TheVariants.{Unreadable}
 use Rattle.known_answers.specs.Tally.{Verdict}
-use Rattle.known_answers.specs.Vector.{Reading, reading_of}
+use Rattle.known_answers.specs.Vector.{Reading}
 use Rattle.trials.specs.Verdicts.{verdict_on}
 use Rattle.plain_box.specs.Naming.{rounds_of}
 use Rattle.plain_box.specs.Plainest.{sealed_by}
