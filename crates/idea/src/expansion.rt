@@ -14,7 +14,7 @@ fn key_word(key: u128, i: usize) -> u16
 }
 
 // The words of eight rounds and the closing words.
-#[tactic(auto, using(four_words::proofs::Filling::filled_more))]
+#[tactic(auto, using(four_words::proofs::Filling::filled_more, crate::proofs::Filling::filled))]
 fn key_words(key: u128) -> [u16; 52]
     ensures { result ≡ key_words key }
 {
