@@ -25,7 +25,7 @@ fn ring_word(key: &[u8; 16], place: usize) -> u16
 }
 
 // The words of the ring as far as the longest network takes them.
-#[tactic(auto, using(four_words::proofs::Filling::filled_more))]
+#[tactic(auto, using(four_words::proofs::Filling::filled_more, crate::proofs::Filling::filled))]
 fn ring_words(key: &[u8; 16]) -> [u16; 52]
     ensures { result ≡ ring_words key.now }
 {
