@@ -2,11 +2,11 @@
 ghost use Rattle.std.specs.Prelude.{◌≡◌};
 ghost use Rattle.chaining.specs.Benches.{state_of, begun};
 
-use crate::direction::Direction;
-use ciphers::Cipher;
-
 mod calling;
 mod rewriting;
+
+use crate::direction::Direction;
+use ciphers::Cipher;
 
 // A cipher, which it owns, a direction, and a chain block once there is one.
 // It has no model, since no model's value can hold the cipher's map, and `into_cipher` gives back the cipher itself.
