@@ -2,8 +2,8 @@
 """Runs the gate's proofs from nothing, and prints what each crate costs: processor seconds for the crate and its tests, and
 for its must-fail edits.
 
-It looks at the running processes several times a second, so that a number may be a little short. The gate's own output goes
-to the file that is named as the only argument.
+It looks at the running processes several times a second, so that a number may be a little short. The first argument names a
+file for the gate's own output; crates may be named after it, and then these and what they rest on are proved alone.
 """
 import collections
 import os
@@ -44,10 +44,10 @@ def look(seen):
             pass
 
 
-def run(log):
+def run(log, crates):
     seen, start = {}, time.time()
     with open(log, "w", encoding="utf-8") as out:
-        gate = subprocess.Popen(["rt", "ci", "--anew"], stdout=out, stderr=subprocess.STDOUT)
+        gate = subprocess.Popen(["rt", "ci", "--anew", *crates], stdout=out, stderr=subprocess.STDOUT)
         while gate.poll() is None:
             look(seen)
             time.sleep(PAUSE)
@@ -55,7 +55,7 @@ def run(log):
 
 
 def main():
-    seen, took = run(sys.argv[1])
+    seen, took = run(sys.argv[1], sys.argv[2:])
     costs = collections.Counter()
     for (_, kind), spent in seen.items():
         costs[kind] += spent
