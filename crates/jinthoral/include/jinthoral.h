@@ -17,14 +17,15 @@ extern "C" {
 #endif
 
 /* What a call came to. `refusal` is 0 where it was done, else the number of its refusal, and `place` the place in what was
- * brought (docs/REFUSALS.md lists both). `length` is how many bytes of the run or of the output were written. */
+ * brought (docs/REFUSALS.md lists both); where it was done, `place` is 0 too. Of several reasons the one with the lowest number
+ * is told. `length` is how many bytes of the run or of the output were written. */
 typedef struct {
     uint64_t refusal;
     size_t place;
     size_t length;
 } jinthoral_reply;
 
-/* The same of a file that was opened, and the label that it bears, or zeros. */
+/* The same of a file that was opened, and the label that it bears, or zeros. Axis 0 is right ascension, 1 declination. */
 typedef struct {
     jinthoral_reply reply;
     uint32_t axis;
