@@ -17,10 +17,24 @@ TICKS = os.sysconf("SC_CLK_TCK")
 PAUSE = 0.2
 
 
+def status(process):
+    """The fields of a process's status line that come after its name in brackets."""
+    return (process / "stat").read_text().rpartition(")")[2].split()
+
+
 def seconds(process):
-    """The processor seconds of a process so far: fields 14 and 15 of its status line, after the name in brackets."""
-    fields = (process / "stat").read_text().rpartition(")")[2].split()
+    """The processor seconds of a process so far."""
+    fields = status(process)
     return (int(fields[11]) + int(fields[12])) / TICKS
+
+
+def is_below(process, gate):
+    """Whether the gate started a process, or what started it."""
+    while process.name not in ("0", "1"):
+        if process.name == gate:
+            return True
+        process = process.parent / status(process)[1]
+    return False
 
 
 def work(process):
@@ -32,13 +46,14 @@ def work(process):
     return crate, os.readlink(process / "cwd").startswith("/tmp/rt-edit")
 
 
-def look(seen):
-    """Notes what each process of the prover has taken so far; one that has ended keeps what was noted last."""
+def look(seen, gate):
+    """Notes what each process of the gate's prover has taken so far; one that has ended keeps what was noted last."""
     for process in pathlib.Path("/proc").iterdir():
         if not process.name.isdigit():
             continue
         try:
-            if kind := work(process):
+            kind = work(process)
+            if kind and is_below(process, gate):
                 seen[process.name, kind] = seconds(process)
         except (OSError, IndexError, ValueError):
             pass
@@ -49,7 +64,7 @@ def run(log, crates):
     with open(log, "w", encoding="utf-8") as out:
         gate = subprocess.Popen(["rt", "ci", "--anew", *crates], stdout=out, stderr=subprocess.STDOUT)
         while gate.poll() is None:
-            look(seen)
+            look(seen, str(gate.pid))
             time.sleep(PAUSE)
     return seen, time.time() - start
 
