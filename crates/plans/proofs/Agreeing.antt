@@ -6,7 +6,7 @@ use Rattle.plans.specs.declared.stages.Stage.{Stage}
 use Rattle.plans.specs.contracts.stages.StagePartialEq.TheImpl.{eq-value}
 
 -- equal stages are one stage
-one_stage : (a b : Stage) → Decides (eq-value.it a b) (a ≡ b)
+pub one_stage : (a b : Stage) → Decides (eq-value.it a b) (a ≡ b)
 one_stage a b = search rules
 
 pub one_list : (xs ys : List Stage) (r : Bool) → r ≡ pointwise eq-value.it xs ys → Decides r (xs ≡ ys)

@@ -42,7 +42,7 @@ no_word text e p =
     ∙ ap (words_from (p + length text)) (drop_all (length text) text (omega arith))
 
 -- a piece that is not empty is a word
-placed_first : (p : ℕ) (word : List ℕ) (pieces : List (List ℕ)) → 0 < length word → placed_from p (word ∷ pieces) ≡ record { place = p; bytes = word } ∷ placed_from (p + length word + 1) pieces
+pub placed_first : (p : ℕ) (word : List ℕ) (pieces : List (List ℕ)) → 0 < length word → placed_from p (word ∷ pieces) ≡ record { place = p; bytes = word } ∷ placed_from (p + length word + 1) pieces
 placed_first p [] pieces l = absurd (omega arith)
 placed_first p (b ∷ bs) pieces l = refl
 

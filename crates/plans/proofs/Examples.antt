@@ -1,8 +1,10 @@
 -- The definitions at a few descriptions: each is computed. Assumes nothing.
-use Rattle.std.proofs.Common.{◌≡◌, [], ◌∷◌, ◌++◌, replicate, codes, Ok, Err, refl}
+use Rattle.std.proofs.Common.{◌≡◌, ◌*◌, [], ◌∷◌, ◌++◌, replicate, codes, Ok, Err, refl}
+use Rattle.std.specs.Fmt.{digits}
 use Rattle.refusals.specs.declared.reasons.Refusal.TheVariants.{DescriptionTooLong, NoWord, UnknownName, BadCount, FifthWord}
 use Rattle.plans.specs.declared.stages.Stage.TheVariants.{Des, Ede2, Ede3, Idea, Xtea, Wxor, Wadd}
 use Rattle.plans.specs.Plans.{plan_of}
+use Rattle.plans.specs.Written.{described, spaced}
 
 spaces_before : plan_of (codes " wxor des:  ") ≡ Err (BadCount 9)
 spaces_before = refl
@@ -57,3 +59,11 @@ longest = refl
 
 too_long : plan_of (codes "des" ++ replicate 62 32) ≡ Err DescriptionTooLong
 too_long = refl
+
+one_between : described (Ede3 ∷ Idea 5 ∷ Xtea 12 ∷ Wadd ∷ []) ≡ codes "ede3 idea:5 xtea:12 wadd"
+unfolding digits
+one_between = refl
+
+more_spaces : spaced (λ k. 2 * k) 0 (Wxor ∷ Xtea 32 ∷ []) ≡ codes "wxor  xtea:32    "
+unfolding digits
+more_spaces = refl

@@ -1,3 +1,4 @@
 pub mod Agreeing
 pub mod Cutting
 pub mod Examples
+pub mod Written

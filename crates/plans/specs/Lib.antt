@@ -1,3 +1,4 @@
 pub mod Plans
 pub mod Stages
 pub mod Words
+pub mod Written

@@ -1,8 +1,9 @@
 // What a description is read as: one to four stages.
-ghost use Rattle.std.specs.Prelude.{◌≡◌, ◌≤◌, ◌↔◌, [], ◌∷◌, length, true};
+ghost use Rattle.std.specs.Prelude.{◌≡◌, ◌≤◌, ◌↔◌, ℕ, List, [], ◌∷◌, length, true, Ok};
 ghost use Rattle.std.specs.List.{All, sum_by};
 ghost use Rattle.plans.specs.Plans.{plan_of, with_word, with_words};
 ghost use Rattle.plans.specs.Stages.{CountFits, key_length};
+ghost use Rattle.plans.specs.Written.{Apart, Lawful, described, spaced};
 
 use crate::stages::Stage;
 use crate::words::{Word, Words};
@@ -87,8 +88,8 @@ fn with_words(mut plan: Plan, words: Words<'_>) -> Result<Plan, Refusal>
     Ok(plan)
 }
 
-// The plan that a description names.
-pub fn read(description: &[u8]) -> Result<Plan, Refusal>
+// The plan that a description's words name, one after another.
+fn plan_of(description: &[u8]) -> Result<Plan, Refusal>
     ensures { result ≡ plan_of description.now }
 {
     if description.len() > 64 {
@@ -97,4 +98,15 @@ pub fn read(description: &[u8]) -> Result<Plan, Refusal>
     let mut words = Words::new(description);
     let first = words.next().ok_or(Refusal::NoWord(description.len()))?;
     with_words(Plan::new(first.stage()?), words)
+}
+
+// The plan that a description names. What a plan is written as is read as that plan, whatever spaces stand before its
+// stages, between them and behind them.
+#[tactic(auto, using(crate::proofs::Written::written, crate::proofs::Written::written_apart))]
+pub fn read(description: &[u8]) -> Result<Plan, Refusal>
+    ensures value { result ≡ plan_of description.now }
+    ensures written { (stages : List Stage) → Lawful stages → description.now ≡ described stages → result ≡ Ok stages }
+    ensures spaced { (stages : List Stage) (spaces : ℕ → ℕ) → Lawful stages → Apart spaces stages → length description.now ≤ 64 → description.now ≡ spaced spaces 0 stages → result ≡ Ok stages }
+{
+    plan_of(description)
 }
