@@ -3,7 +3,7 @@ use Rattle.std.proofs.Common.{◌≡◌, ℕ, zero, suc, ◌+◌, ◌-◌, ◌*�
 use Rattle.std.specs.Prelude.{◌==◌, nat_le, nat_lt}
 use Rattle.std.specs.Fmt.{digits}
 use Rattle.std.specs.List.{All, list_all, range_with_len, slice_split}
-use Rattle.std.proofs.lemmas.Bool.{not-true}
+use Rattle.std.proofs.lemmas.Bool.{and_parts, not-true}
 use Rattle.std.proofs.lemmas.List.{append-nil}
 use Rattle.std.proofs.lemmas.List.Elements.{All-head, All-tail}
 use Rattle.std.proofs.lemmas.List.FromFn.{get_or-range_with_len, length-range_with_len}
@@ -50,10 +50,6 @@ every_stage p (Xtea cycles) fits = each_count (λ n. good p (Xtea n)) 32 refl cy
 every_stage p Wxor fits = refl
 every_stage p Wadd fits = refl
 
-both : (a b : Bool) → (a && b) ≡ true → (a ≡ true) × (b ≡ true)
-both true b e = (refl, e)
-both false b e = search rules
-
 told_true : (stage : Stage) (r : Result Stage Refusal) → told stage r ≡ true → r ≡ Ok stage
 unfolding told
 told_true stage (Ok other) e = ap Ok ((one_stage other stage).0 e)
@@ -61,19 +57,19 @@ told_true stage (Err e) t = search rules
 
 names_stage : (p : ℕ) (stage : Stage) → CountFits stage → stage_of (record { place = p; bytes = stage_text stage }) ≡ Ok stage
 unfolding good
-names_stage p stage fits = told_true stage _ (both _ _ (both _ _ (both _ _ (every_stage p stage fits)).0).0).0
+names_stage p stage fits = told_true stage _ (and_parts _ _ (and_parts _ _ (and_parts _ _ (every_stage p stage fits)).0).0).0
 
 no_space : (stage : Stage) → CountFits stage → All (λ b. (b == 32) ≡ false) (stage_text stage)
 unfolding good
-no_space stage fits k d l = not-true _ (AllPass-from_list_all (λ b. not (b == 32)) (stage_text stage) (both _ _ (both _ _ (both _ _ (every_stage 0 stage fits)).0).0).1 k d l)
+no_space stage fits k d l = not-true _ (AllPass-from_list_all (λ b. not (b == 32)) (stage_text stage) (and_parts _ _ (and_parts _ _ (and_parts _ _ (every_stage 0 stage fits)).0).0).1 k d l)
 
 some_bytes : (stage : Stage) → CountFits stage → 0 < length (stage_text stage)
 unfolding good
-some_bytes stage fits = ltb-true _ _ (both _ _ (both _ _ (every_stage 0 stage fits)).0).1
+some_bytes stage fits = ltb-true _ _ (and_parts _ _ (and_parts _ _ (every_stage 0 stage fits)).0).1
 
 few_bytes : (stage : Stage) → CountFits stage → length (stage_text stage) ≤ 7
 unfolding good
-few_bytes stage fits = leb-true _ _ (both _ _ (every_stage 0 stage fits)).1
+few_bytes stage fits = leb-true _ _ (and_parts _ _ (every_stage 0 stage fits)).1
 
 -- what may stand behind a word: nothing, or a space and anything
 abbrev Behind : List ℕ → Type 0
