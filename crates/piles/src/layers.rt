@@ -7,7 +7,6 @@ ghost use Rattle.piles.specs.Layers.{layered};
 
 use ciphers::{Cipher, Undo};
 use plans::Stage;
-use whitening::Whitening;
 
 // A stage's cipher with its key, or no cipher.
 #[derive(Drop)]
@@ -43,8 +42,8 @@ impl Layer {
             Stage::Ede3 => Layer::TripleDes(des::ede3(sized(key))),
             Stage::Idea(rounds) => Layer::Idea(idea::Idea::new(sized(key), rounds)),
             Stage::Xtea(cycles) => Layer::Xtea(xtea::Xtea::new(sized(key), cycles)),
-            Stage::Wxor => Layer::Wxor(Whitening::keyed(sized(key))),
-            Stage::Wadd => Layer::Wadd(Whitening::keyed(sized(key))),
+            Stage::Wxor => Layer::Wxor(whitening::Wxor::xoring(sized(key))),
+            Stage::Wadd => Layer::Wadd(whitening::Wadd::adding(sized(key))),
         }
     }
 }

@@ -15,7 +15,7 @@ use xtea::{Cycles, Xtea};
 pub(crate) fn wadd(key: &[u8; 8], block: u64) -> u64
     ensures { result ≡ wadd (from_be_bytes w64 key.now) block }
 {
-    Wadd::keyed(key).seal(block)
+    Wadd::adding(key).seal(block)
 }
 
 pub(crate) fn xtea(key: &[u8; 16], cycles: Cycles, block: u64) -> u64

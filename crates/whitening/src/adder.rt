@@ -3,7 +3,7 @@ ghost use Rattle.std.specs.Prelude.{◌≡◌, ◌^◌, ◌<◌};
 ghost use Rattle.std.specs.Int.{from_be_bytes, w64};
 ghost use Rattle.networks.specs.Halves.{halves_of, Words};
 ghost use Rattle.ciphers.specs.Maps.{Inverse, SameMap};
-ghost use Rattle.whitening.specs.Whitening.{inverses, joined_with, whitened};
+ghost use Rattle.whitening.specs.Whitening.{inverses, joined_with, wadd, whitened, wxor};
 
 use ciphers::{Cipher, Undo};
 use groups::{Group, Sum32, Xor32};
@@ -20,6 +20,26 @@ pub struct Whitening<G: Group<Word = u32>> {
 pub type Wxor = Whitening<Xor32>;
 
 pub type Wadd = Whitening<Sum32>;
+
+impl Wxor {
+    // The halves of a key of eight bytes xored.
+    pub fn xoring(key: &[u8; 8]) -> Wxor
+        ensures words { result.words ≡ halves_of (from_be_bytes w64 key.now) }
+        ensures map { SameMap (⟦<Wxor as Cipher>⟧.map result) (wxor (from_be_bytes w64 key.now)) }
+    {
+        Self::keyed(key)
+    }
+}
+
+impl Wadd {
+    // The halves of a key of eight bytes added modulo 2^32.
+    pub fn adding(key: &[u8; 8]) -> Wadd
+        ensures words { result.words ≡ halves_of (from_be_bytes w64 key.now) }
+        ensures map { SameMap (⟦<Wadd as Cipher>⟧.map result) (wadd (from_be_bytes w64 key.now)) }
+    {
+        Self::keyed(key)
+    }
+}
 
 impl<G: Group<Word = u32>> Whitening<G> {
     // The left word for the left half, and the right word for the right one.
