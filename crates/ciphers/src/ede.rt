@@ -4,6 +4,7 @@ ghost use Rattle.ciphers.specs.Maps.{Inverse, SameMap, in_turn};
 
 use crate::interface::Cipher;
 use crate::undoing::Undo;
+use networks::Four;
 use std::mem;
 
 // The second is kept turned, as the inverse that is sealed with.
@@ -38,6 +39,11 @@ impl<C: Cipher> Cipher for Ede<C> {
 
     fn seal(&self, block: u64) -> u64 {
         self.third.seal(self.second.seal(self.first.seal(block)))
+    }
+
+    fn seal_four(&self, blocks: Four<u64>) -> Four<u64> {
+        self.third
+            .seal_four(self.second.seal_four(self.first.seal_four(blocks)))
     }
 
     fn turn(&mut self) {

@@ -8,13 +8,28 @@ ghost use Rattle.ciphers.specs.Maps.{Inverse};
 use crate::interface::Cipher;
 use crate::undoing::Undo;
 use groups::Group;
-use networks::{Feistel, RoundFunction};
+use networks::{Feistel, Four, RoundFunction};
 
 impl<G: Group<Word = u32>, F: RoundFunction<Half = u32>> Cipher for Feistel<G, F> {
     ghost map = { λ n. feistel (network G.Group F.RoundFunction n) };
 
     fn seal(&self, block: u64) -> u64 {
         self.run(block.into()).into()
+    }
+
+    fn seal_four(&self, blocks: Four<u64>) -> Four<u64> {
+        let halves = self.run_four(Four {
+            first: blocks.first.into(),
+            second: blocks.second.into(),
+            third: blocks.third.into(),
+            fourth: blocks.fourth.into(),
+        });
+        Four {
+            first: halves.first.into(),
+            second: halves.second.into(),
+            third: halves.third.into(),
+            fourth: halves.fourth.into(),
+        }
     }
 
     fn turn(&mut self)

@@ -18,7 +18,7 @@ mod undoing;
 
 pub use ede::Ede;
 pub use interface::Cipher;
-pub use networks::WaysBack;
+pub use networks::{Four, WaysBack};
 pub use permutations::{BitPermutation, Permutation};
 pub use sequence::Pair;
 pub use swap::SwapHalves;

@@ -4,6 +4,7 @@ ghost use Rattle.ciphers.specs.Maps.{composed};
 
 use crate::interface::Cipher;
 use crate::undoing::Undo;
+use networks::Four;
 
 // The first cipher and then the second, or the other way round once the pair is turned. A turn is in place, so the order
 // is a value and no type.
@@ -36,6 +37,14 @@ impl<A: Cipher, B: Cipher> Cipher for Pair<A, B> {
             self.first.seal(self.second.seal(block))
         } else {
             self.second.seal(self.first.seal(block))
+        }
+    }
+
+    fn seal_four(&self, blocks: Four<u64>) -> Four<u64> {
+        if self.reversed {
+            self.first.seal_four(self.second.seal_four(blocks))
+        } else {
+            self.second.seal_four(self.first.seal_four(blocks))
         }
     }
 

@@ -1,10 +1,12 @@
 // Feistel networks over any group and round function.
 ghost use Rattle.std.specs.Prelude.{◌≡◌, false};
+ghost use Rattle.networks.specs.Fours.{each, rounds_abreast};
 ghost use Rattle.networks.specs.Halves.{Words};
 ghost use Rattle.networks.specs.Inverses.{Inverses};
 ghost use Rattle.networks.specs.Networks.{network};
 ghost use Rattle.networks.specs.Rounds.{applied, round, rounds, unround, unrounds, ran, unran, turned};
 
+use crate::fours::Four;
 use crate::functions::RoundFunction;
 use crate::pairs::Halves;
 use crate::schedules::Schedule;
@@ -77,6 +79,33 @@ impl<G: Group, F: RoundFunction<Half = G::Word>> Feistel<G, F> {
             .fold(halves, |state, word| self.round(*word, state))
     }
 
+    fn round_four(&self, word: u64, halves: Four<Halves<G::Word>>) -> Four<Halves<G::Word>>
+        ensures { result ≡ each (round (network G.Group F.RoundFunction self.now) word) halves }
+    {
+        Four {
+            first: self.round(word, halves.first),
+            second: self.round(word, halves.second),
+            third: self.round(word, halves.third),
+            fourth: self.round(word, halves.fourth),
+        }
+    }
+
+    // The rounds in order, each of them of four pairs of halves before the next.
+    fn rounds_abreast(&self, halves: Four<Halves<G::Word>>) -> Four<Halves<G::Word>>
+        ensures { result ≡ rounds_abreast (network G.Group F.RoundFunction self.now) self.now.schedule halves }
+    {
+        self.schedule
+            .round_words()
+            .iter()
+            .fold(halves, |state, word| self.round_four(*word, state))
+    }
+
+    fn rounds_four(&self, halves: Four<Halves<G::Word>>) -> Four<Halves<G::Word>>
+        ensures { result ≡ each (rounds (network G.Group F.RoundFunction self.now) self.now.schedule) halves }
+    {
+        self.rounds_abreast(halves)
+    }
+
     // The rounds in order, and then the swap. A part of its own, as are `undone` and `reverse`, so that a wrong order is
     // refused where it is chosen, and not where a proof cites it.
     fn ran(&self, halves: Halves<G::Word>) -> Halves<G::Word>
@@ -91,6 +120,19 @@ impl<G: Group, F: RoundFunction<Half = G::Word>> Feistel<G, F> {
         ensures back { Words G.Word.Word.fits halves → ran (turned (network G.Group F.RoundFunction self.now)) result ≡ halves }
     {
         self.ran(halves)
+    }
+
+    // The same of four pairs of halves.
+    pub fn run_four(&self, halves: Four<Halves<G::Word>>) -> Four<Halves<G::Word>>
+        ensures { result ≡ each (ran (network G.Group F.RoundFunction self.now)) halves }
+    {
+        let rounds = self.rounds_four(halves);
+        Four {
+            first: rounds.first.swap(),
+            second: rounds.second.swap(),
+            third: rounds.third.swap(),
+            fourth: rounds.fourth.swap(),
+        }
     }
 
     // The rounds taken back, the last one first.

@@ -7,6 +7,7 @@
 #![tactic(auto)]
 
 mod feistel;
+mod fours;
 mod functions;
 mod pairs;
 mod schedules;
@@ -15,6 +16,7 @@ mod tests;
 mod ways;
 
 pub use feistel::Feistel;
+pub use fours::Four;
 pub use functions::RoundFunction;
 pub use pairs::Halves;
 pub use schedules::Schedule;
