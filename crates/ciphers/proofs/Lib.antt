@@ -1,3 +1,4 @@
 pub mod Blocks
+pub mod Networks
 pub mod Permuting
 pub mod Same

@@ -1,47 +1,68 @@
-// Every Feistel network over 32-bit words is a cipher.
+// Every Feistel network over words of 32 bits, in whatever form, is a cipher.
 ghost use Rattle.std.specs.Prelude.{◌≡◌};
 ghost use Rattle.networks.specs.Networks.{network};
-ghost use Rattle.networks.specs.Rounds.{turned};
-ghost use Rattle.ciphers.specs.Blocks.{feistel};
+ghost use Rattle.networks.specs.Rounds.{ran, turned, unran};
+ghost use Rattle.ciphers.specs.Blocks.{block_of_words, feistel_of, words_of};
 ghost use Rattle.ciphers.specs.Maps.{Inverse};
 
 use crate::interface::Cipher;
 use crate::undoing::Undo;
 use groups::Group;
-use networks::{Feistel, Four, RoundFunction};
+use networks::{Feistel, Four, HalfWord, Halves, RoundFunction};
 
-impl<G: Group<Word = u32>, F: RoundFunction<Half = u32>> Cipher for Feistel<G, F> {
-    ghost map = { λ n. feistel (network G.Group F.RoundFunction n) };
+// The halves of a block.
+fn split<W: HalfWord>(block: u64) -> Halves<W>
+    ensures { result ≡ words_of W.HalfWord.word_of block }
+{
+    let halves: Halves<u32> = block.into();
+    Halves {
+        left: W::from_number(halves.left),
+        right: W::from_number(halves.right),
+    }
+}
+
+fn join<W: HalfWord>(halves: Halves<W>) -> u64
+    ensures { result ≡ block_of_words W.HalfWord.number_of halves }
+{
+    Halves {
+        left: halves.left.to_number(),
+        right: halves.right.to_number(),
+    }
+    .into()
+}
+
+impl<W: HalfWord, G: Group<Word = W>, F: RoundFunction<Half = W>, const N: usize> Cipher for Feistel<G, F, N> {
+    ghost map = { λ n. feistel_of W.HalfWord.word_of W.HalfWord.number_of (network G.Group F.RoundFunction n) };
 
     fn seal(&self, block: u64) -> u64 {
-        self.run(block.into()).into()
+        join(self.run(split(block)))
     }
 
     fn seal_four(&self, blocks: Four<u64>) -> Four<u64> {
         let halves = self.run_four(Four {
-            first: blocks.first.into(),
-            second: blocks.second.into(),
-            third: blocks.third.into(),
-            fourth: blocks.fourth.into(),
+            first: split(blocks.first),
+            second: split(blocks.second),
+            third: split(blocks.third),
+            fourth: split(blocks.fourth),
         });
         Four {
-            first: halves.first.into(),
-            second: halves.second.into(),
-            third: halves.third.into(),
-            fourth: halves.fourth.into(),
+            first: join(halves.first),
+            second: join(halves.second),
+            third: join(halves.third),
+            fourth: join(halves.fourth),
         }
     }
 
     fn turn(&mut self)
-        ensures inverse { Inverse (feistel (network G.Group F.RoundFunction self.old)) (feistel (network G.Group F.RoundFunction self.new)) }
+        ensures inverse { Inverse (feistel_of W.HalfWord.word_of W.HalfWord.number_of (network G.Group F.RoundFunction self.old)) (feistel_of W.HalfWord.word_of W.HalfWord.number_of (network G.Group F.RoundFunction self.new)) }
         ensures network { network G.Group F.RoundFunction self.new ≡ turned (network G.Group F.RoundFunction self.old) }
     {
         self.turn();
     }
 }
 
-impl<G: Group<Word = u32>, F: RoundFunction<Half = u32>> Undo for Feistel<G, F> {
+impl<W: HalfWord, G: Group<Word = W>, F: RoundFunction<Half = W>, const N: usize> Undo for Feistel<G, F, N> {
     fn undo(&self, block: u64) -> u64 {
-        self.undo(block.into()).into()
+        join(self.undo(split(block)))
     }
 }

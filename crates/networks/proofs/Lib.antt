@@ -1,3 +1,4 @@
 pub mod Folds
+pub mod Kept
 pub mod Splits
 pub mod TwoWays

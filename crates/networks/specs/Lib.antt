@@ -1,4 +1,5 @@
 pub mod Fours
+pub mod HalfWords
 pub mod Halves
 pub mod Inverses
 pub mod Networks

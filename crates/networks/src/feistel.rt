@@ -18,15 +18,15 @@ use std::marker::PhantomData;
 // inverted in the group, as they are once the network is turned. A turn is in place, so `inverted` is a value and no type.
 // It has no model: a model's value can hold no function, and a network's does.
 #[derive(Drop)]
-pub struct Feistel<G: Group, F: RoundFunction<Half = G::Word>> {
+pub struct Feistel<G: Group, F: RoundFunction<Half = G::Word>, const N: usize> {
     function: F,
-    schedule: Schedule,
+    schedule: Schedule<F, N>,
     inverted: bool,
     group: PhantomData<G>,
 }
 
-impl<G: Group, F: RoundFunction<Half = G::Word>> Feistel<G, F> {
-    pub fn new(function: F, schedule: Schedule) -> Self
+impl<G: Group, F: RoundFunction<Half = G::Word>, const N: usize> Feistel<G, F, N> {
+    pub fn new(function: F, schedule: Schedule<F, N>) -> Self
         ensures function { result.function ≡ function }
         ensures words { result.schedule ≡ schedule }
         ensures plain { result.inverted ≡ false }
@@ -40,10 +40,10 @@ impl<G: Group, F: RoundFunction<Half = G::Word>> Feistel<G, F> {
     }
 
     // The round function, or its inverse in the group where the network is turned.
-    fn applied(&self, half: G::Word, word: u64) -> G::Word
-        ensures { result ≡ applied (network G.Group F.RoundFunction self.now) half word }
+    fn applied(&self, half: G::Word, kept: u64) -> G::Word
+        ensures { result ≡ applied (network G.Group F.RoundFunction self.now) half (F.RoundFunction.word_of kept) }
     {
-        let value = self.function.mix(half, word);
+        let value = self.function.mix(half, kept);
         if self.inverted {
             G::inverse(value)
         } else {
@@ -51,20 +51,20 @@ impl<G: Group, F: RoundFunction<Half = G::Word>> Feistel<G, F> {
         }
     }
 
-    fn round(&self, word: u64, halves: Halves<G::Word>) -> Halves<G::Word>
-        ensures { result ≡ round (network G.Group F.RoundFunction self.now) word halves }
+    fn round(&self, kept: u64, halves: Halves<G::Word>) -> Halves<G::Word>
+        ensures { result ≡ round (network G.Group F.RoundFunction self.now) (F.RoundFunction.word_of kept) halves }
     {
         Halves {
             left: halves.right,
-            right: G::join(halves.left, self.applied(halves.right, word)),
+            right: G::join(halves.left, self.applied(halves.right, kept)),
         }
     }
 
-    fn unround(&self, word: u64, halves: Halves<G::Word>) -> Halves<G::Word>
-        ensures { result ≡ unround (network G.Group F.RoundFunction self.now) word halves }
+    fn unround(&self, kept: u64, halves: Halves<G::Word>) -> Halves<G::Word>
+        ensures { result ≡ unround (network G.Group F.RoundFunction self.now) (F.RoundFunction.word_of kept) halves }
     {
         Halves {
-            left: G::join(halves.right, G::inverse(self.applied(halves.left, word))),
+            left: G::join(halves.right, G::inverse(self.applied(halves.left, kept))),
             right: halves.left,
         }
     }
@@ -73,20 +73,22 @@ impl<G: Group, F: RoundFunction<Half = G::Word>> Feistel<G, F> {
     fn rounds(&self, halves: Halves<G::Word>) -> Halves<G::Word>
         ensures { result ≡ rounds (network G.Group F.RoundFunction self.now) self.now.schedule halves }
     {
-        self.schedule
-            .round_words()
-            .iter()
-            .fold(halves, |state, word| self.round(*word, state))
+        self.schedule.kept().iter().fold(
+            halves,
+            |state, kept| -> Halves<G::Word>
+                ensures { result ≡ round (network G.Group F.RoundFunction self.entry.now) (F.RoundFunction.word_of kept.now) state }
+            { self.round(*kept, state) },
+        )
     }
 
-    fn round_four(&self, word: u64, halves: Four<Halves<G::Word>>) -> Four<Halves<G::Word>>
-        ensures { result ≡ each (round (network G.Group F.RoundFunction self.now) word) halves }
+    fn round_four(&self, kept: u64, halves: Four<Halves<G::Word>>) -> Four<Halves<G::Word>>
+        ensures { result ≡ each (round (network G.Group F.RoundFunction self.now) (F.RoundFunction.word_of kept)) halves }
     {
         Four {
-            first: self.round(word, halves.first),
-            second: self.round(word, halves.second),
-            third: self.round(word, halves.third),
-            fourth: self.round(word, halves.fourth),
+            first: self.round(kept, halves.first),
+            second: self.round(kept, halves.second),
+            third: self.round(kept, halves.third),
+            fourth: self.round(kept, halves.fourth),
         }
     }
 
@@ -94,10 +96,12 @@ impl<G: Group, F: RoundFunction<Half = G::Word>> Feistel<G, F> {
     fn rounds_abreast(&self, halves: Four<Halves<G::Word>>) -> Four<Halves<G::Word>>
         ensures { result ≡ rounds_abreast (network G.Group F.RoundFunction self.now) self.now.schedule halves }
     {
-        self.schedule
-            .round_words()
-            .iter()
-            .fold(halves, |state, word| self.round_four(*word, state))
+        self.schedule.kept().iter().fold(
+            halves,
+            |state, kept| -> Four<Halves<G::Word>>
+                ensures { result ≡ each (round (network G.Group F.RoundFunction self.entry.now) (F.RoundFunction.word_of kept.now)) state }
+            { self.round_four(*kept, state) },
+        )
     }
 
     fn rounds_four(&self, halves: Four<Halves<G::Word>>) -> Four<Halves<G::Word>>
@@ -139,11 +143,12 @@ impl<G: Group, F: RoundFunction<Half = G::Word>> Feistel<G, F> {
     fn unrounds(&self, halves: Halves<G::Word>) -> Halves<G::Word>
         ensures { result ≡ unrounds (network G.Group F.RoundFunction self.now) self.now.schedule halves }
     {
-        self.schedule
-            .round_words()
-            .iter()
-            .rev()
-            .fold(halves, |state, word| self.unround(*word, state))
+        self.schedule.kept().iter().rev().fold(
+            halves,
+            |state, kept| -> Halves<G::Word>
+                ensures { result ≡ unround (network G.Group F.RoundFunction self.entry.now) (F.RoundFunction.word_of kept.now) state }
+            { self.unround(*kept, state) },
+        )
     }
 
     // The swap taken back, and then the rounds.

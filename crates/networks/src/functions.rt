@@ -9,8 +9,11 @@ pub trait RoundFunction {
 
     ghost value: { Self → Self.Half → ℕ → Self.Half };
 
-    fn mix(&self, half: Self::Half, word: u64) -> Self::Half
-        ensures { result ≡ value self.now half word };
+    // the round word that a kept one stands for: a schedule may keep them in the form that is quickest to use
+    ghost word_of: { ℕ → ℕ } = { λ kept. kept };
+
+    fn mix(&self, half: Self::Half, kept: u64) -> Self::Half
+        ensures { result ≡ value self.now half (word_of kept) };
 
     // the values are words, which says no more than their type
     ghost within: { (f : Self) (half : Self.Half) (word : ℕ) → Self.Half.Word.fits (value f half word) };

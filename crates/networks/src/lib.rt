@@ -9,6 +9,7 @@
 mod feistel;
 mod fours;
 mod functions;
+mod half_words;
 mod pairs;
 mod schedules;
 #[cfg(test)]
@@ -18,6 +19,7 @@ mod ways;
 pub use feistel::Feistel;
 pub use fours::Four;
 pub use functions::RoundFunction;
+pub use half_words::HalfWord;
 pub use pairs::Halves;
 pub use schedules::Schedule;
 pub use ways::WaysBack;

@@ -23,7 +23,7 @@ impl RoundFunction for Added {
     }
 }
 
-fn network(rounds: usize) -> Feistel<Sum16, Added> {
+fn network(rounds: usize) -> Feistel<Sum16, Added, 64> {
     let mut words = [0; 64];
     words[0] = 1;
     words[1] = 0xFFFF;
