@@ -13,7 +13,7 @@ use networks::Feistel;
 
 #[derive(Drop)]
 pub struct Xtea {
-    layers: Pair<Feistel<Sum32, XteaRound>, SwapHalves>,
+    layers: Pair<Feistel<Sum32, XteaRound, 64>, SwapHalves>,
 }
 
 impl Xtea {

@@ -3,6 +3,7 @@ ghost use Rattle.std.specs.Prelude.{◌≡◌, ◌+◌, ◌%◌, ◌^◌};
 ghost use Rattle.xtea.specs.Xtea.{sum_of, key_word, first_word, second_word, words_of};
 
 use crate::cycles::Cycles;
+use crate::rounding::XteaRound;
 use arrayvec::ArrayVec;
 use networks::Schedule;
 
@@ -48,7 +49,7 @@ fn second_word(key: &[u8; 16], cycle: u32) -> u64
 
 // The round words of every cycle in order.
 #[tactic(auto, using(crate::proofs::Words::words_none, crate::proofs::Words::words_more))]
-pub(crate) fn key_schedule(key: &[u8; 16], cycles: Cycles) -> Schedule
+pub(crate) fn key_schedule(key: &[u8; 16], cycles: Cycles) -> Schedule<XteaRound, 64>
     ensures { result ≡ words_of key.now cycles }
 {
     let mut words = ArrayVec::new();
