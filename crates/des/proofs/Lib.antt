@@ -1,4 +1,5 @@
 pub mod Below
+pub mod Choosing
 pub mod Ciphering
 pub mod Complement
 pub mod Deciphering
@@ -7,5 +8,6 @@ pub mod Merged
 pub mod Ones
 pub mod Parts
 pub mod Rows
+pub mod Spreading
 pub mod Swaps
 pub mod Three

@@ -3,18 +3,16 @@ use Rattle.std.proofs.Common.{◌≡◌, ℕ, ◌^◌, ◌<◌, true, refl, sym,
 use Rattle.selections.specs.Permutations.{inverse_table}
 use Rattle.selections.specs.Selections.{picked}
 use Rattle.selections.proofs.Linear.{Linear, agree, linear_id, linear_after, linear_and, linear_mod, linear_picked, linear_shl, linear_shr, linear_xor, same_linear}
-use Rattle.des.specs.Swaps.{differing, exchanged}
+use Rattle.des.specs.Swaps.{exchanged, others}
 use Rattle.des.specs.Tables.{initial, final}
 use Rattle.des.proofs.Ciphering.{final_is}
 
-linear_differing : (places mask : ℕ) → Linear (differing places mask)
-linear_differing places mask = linear_after (linear_and mask) (linear_xor (linear_shr places) linear_id)
-
-linear_exchanged : (places mask : ℕ) → Linear (exchanged places mask)
+pub linear_exchanged : (places mask : ℕ) → Linear (exchanged places mask)
 unfolding exchanged
 linear_exchanged places mask =
-    let d = linear_differing places mask in
-    linear_xor (linear_xor linear_id d) (linear_after (linear_mod 64) (linear_after (linear_shl places) d))
+    linear_xor
+    (linear_xor (linear_and (others places mask)) (linear_after (linear_and mask) (linear_shr places)))
+    (linear_after (linear_mod 64) (linear_after (linear_shl places) (linear_and mask)))
 
 -- five exchanges, and the same in the reverse order
 abbrev there : ℕ → ℕ

@@ -9,13 +9,13 @@ ghost use Rattle.des.specs.Sealing.{sealing};
 use crate::initial::Initial;
 use crate::keys::key_schedule;
 use crate::rounding::DesRound;
-use ciphers::{BitPermutation, Cipher, Pair, Undo};
-use groups::Xor32;
+use crate::spread::XorSpread;
+use ciphers::{BitPermutation, Cipher, Four, Pair, Undo};
 use networks::Feistel;
 
 #[derive(Drop)]
 pub struct Des {
-    layers: Pair<BitPermutation<Initial>, Pair<Feistel<Xor32, DesRound>, BitPermutation<Initial>>>,
+    layers: Pair<BitPermutation<Initial>, Pair<Feistel<XorSpread, DesRound, 16>, BitPermutation<Initial>>>,
 }
 
 impl Des {
@@ -41,6 +41,10 @@ impl Cipher for Des {
 
     fn seal(&self, block: u64) -> u64 {
         self.layers.seal(block)
+    }
+
+    fn seal_four(&self, blocks: Four<u64>) -> Four<u64> {
+        self.layers.seal_four(blocks)
     }
 
     fn turn(&mut self) {

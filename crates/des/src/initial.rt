@@ -5,14 +5,15 @@ ghost use Rattle.des.specs.Tables.{initial};
 
 use ciphers::Permutation;
 
-// The bits that a mask names and those some places above them exchanged: a delta swap.
+// The bits that a mask names and those some places above them exchanged. The bits that move and those that stay are taken
+// apart, which takes fewer steps one after another than joining in where they differ.
 #[tactic(auto, unfolding(crate::specs::Swaps::exchanged))]
-fn exchange(block: u64, places: u32, mask: u64) -> u64
+pub(crate) fn exchange(block: u64, places: u32, mask: u64) -> u64
     requires { places < 64 }
     ensures { result ≡ exchanged places mask block }
 {
-    let differing = ((block >> places) ^ block) & mask;
-    block ^ differing ^ (differing << places)
+    let staying = block & !(mask | (mask << places));
+    staying ^ ((block >> places) & mask) ^ ((block & mask) << places)
 }
 
 pub(crate) struct Initial;

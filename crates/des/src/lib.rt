@@ -14,6 +14,7 @@ mod initial;
 mod keys;
 mod opposites;
 mod rounding;
+mod spread;
 mod tables;
 mod triple;
 

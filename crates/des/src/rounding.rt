@@ -1,16 +1,18 @@
-// DES's round function, by one table for the boxes and P.
+// DES's round function, by one table for the boxes, P and the E of the next round.
 ghost use Rattle.std.specs.Prelude.{◌≡◌, ◌+◌, ◌*◌, ◌^◌, ◌%◌, ◌<◌};
 ghost use Rattle.selections.proofs.Picked.{picked_below};
 ghost use Rattle.des.specs.Tables.{permutation};
 ghost use Rattle.des.specs.Des.{group, f};
-ghost use Rattle.des.specs.Merged.{merged_numbers, placed, wide, mixed, share};
+ghost use Rattle.des.specs.Merged.{merged_numbers, mixed, placed, share, shares};
+ghost use Rattle.des.specs.Spread.{Groups, byte_of, half_of, spread, word_of};
 
+use crate::spread::{GROUPS, Spread};
 use crate::tables::MERGED;
 use networks::RoundFunction;
 
-// The merged table, of SP-boxes: for each box and each six bits what P makes of the box's four bits in their place.
-#[tactic(auto, unfolding(crate::specs::Merged::merged_numbers, crate::specs::Merged::placed, crate::specs::Boxes::boxed))]
-fn merged() -> &'static [u32; 512]
+// For each box and each six bits, what P makes of the box's four bits in their place, as the boxes of the next round take it.
+#[tactic(auto, unfolding(crate::specs::Merged::merged_numbers, crate::specs::Merged::placed, crate::specs::Boxes::boxed, crate::specs::Spread::spread))]
+fn merged() -> &'static [u64; 512]
     ensures { result.now ≡ merged_numbers }
 {
     &MERGED
@@ -18,59 +20,92 @@ fn merged() -> &'static [u32; 512]
 
 // What P makes of the four bits of box `index + 1`.
 #[tactic(auto, using(crate::proofs::Merged::merged_entry))]
-fn placed(index: usize, six: usize) -> u32
+fn placed(index: usize, six: usize) -> u64
     requires eight { index < 8 }
     requires six { six < 64 }
-    ensures { result ≡ placed index six }
+    ensures { result ≡ spread (placed index six) }
 {
     merged()[64 * index + six]
 }
 
-// The half with its last bit in front and its first bit behind.
-fn wide(half: u32) -> u64
-    ensures { result ≡ wide half }
+// The byte in which box `index + 1` has its group, from the least significant on.
+fn byte_of(index: u32) -> u32
+    requires { index < 8 }
+    ensures value { result ≡ byte_of index }
+    ensures few { result < 8 }
 {
-    let half = u64::from(half);
-    (half % 2 * 0x2_0000_0000) ^ (half * 2) ^ (half >> 31)
+    (7 - index) / 2 + 4 * (1 - index % 2)
 }
 
-// What box `index + 1` takes: its group of E of the half, xored with that of the round word.
-#[tactic(auto, using(crate::proofs::Merged::group_mixed))]
-fn box_input(half: u32, word: u64, index: u32) -> usize
-    requires { index < 8 }
-    ensures value { result ≡ group (mixed half word) index }
+// What box `index + 1` takes. Nothing is left to mask off, since each byte is a group.
+#[tactic(auto, using(crate::proofs::Merged::group_of_byte))]
+fn box_input(groups: u64, index: u32) -> usize
+    requires eight { index < 8 }
+    requires groups { Groups groups }
+    ensures value { result ≡ group (word_of groups) index }
     ensures six { result < 64 }
 {
-    (((wide(half) >> (28 - 4 * index)) ^ (word >> (42 - 6 * index))) % 64) as usize
+    ((groups >> (8 * byte_of(index))) % 256) as usize
 }
 
 // What box `index + 1` adds to the round function.
-fn share(half: u32, word: u64, index: u32) -> u32
-    requires { index < 8 }
-    ensures { result ≡ share half word index }
+fn share(groups: u64, index: u32) -> u64
+    requires eight { index < 8 }
+    requires groups { Groups groups }
+    ensures { result ≡ spread (share (word_of groups) index) }
 {
-    placed(index as usize, box_input(half, word, index))
+    placed(index as usize, box_input(groups, index))
+}
+
+// What all boxes add, each spread.
+#[tactic(auto, using(crate::proofs::Merged::shares_spread))]
+fn added(groups: u64) -> u64
+    requires { Groups groups }
+    ensures { result ≡ spread (shares (word_of groups)) }
+{
+    share(groups, 7)
+        ^ share(groups, 6)
+        ^ share(groups, 5)
+        ^ share(groups, 4)
+        ^ share(groups, 3)
+        ^ share(groups, 2)
+        ^ share(groups, 1)
+        ^ share(groups, 0)
+}
+
+// The same, and that it has the half.
+#[tactic(auto, using(crate::proofs::Merged::shares_back))]
+fn shares(groups: u64) -> u64
+    requires { Groups groups }
+    ensures value { result ≡ spread (shares (word_of groups)) }
+    ensures half { half_of result ≡ shares (word_of groups) }
+{
+    added(groups)
+}
+
+// What the boxes take: the groups of a half, xored with those of a round word.
+#[tactic(auto, using(crate::proofs::Merged::groups_mixed, crate::proofs::Merged::word_mixed))]
+fn mixed(half: Spread, kept: u64) -> u64
+    ensures groups { Groups result }
+    ensures word { word_of result ≡ mixed half (word_of kept) }
+{
+    half.groups() ^ (kept & GROUPS)
 }
 
 #[derive(Clone, Copy)]
 pub(crate) struct DesRound;
 
 impl RoundFunction for DesRound {
-    type Half = u32;
+    type Half = Spread;
 
     ghost value = { λ _ half word. f half word };
+
+    ghost word_of = { word_of };
 
     ghost within = { λ _ half word. unfold f in picked_below 32 _ permutation };
 
     #[tactic(auto, using(crate::proofs::Merged::f_shares))]
-    fn mix(&self, half: u32, word: u64) -> u32 {
-        share(half, word, 0)
-            ^ share(half, word, 1)
-            ^ share(half, word, 2)
-            ^ share(half, word, 3)
-            ^ share(half, word, 4)
-            ^ share(half, word, 5)
-            ^ share(half, word, 6)
-            ^ share(half, word, 7)
+    fn mix(&self, half: Spread, kept: u64) -> Spread {
+        Spread::from_groups(shares(mixed(half, kept)))
     }
 }

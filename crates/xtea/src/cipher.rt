@@ -7,7 +7,7 @@ ghost use Rattle.xtea.specs.Xtea.{words_of, xtea};
 use crate::cycles::Cycles;
 use crate::expansion::key_schedule;
 use crate::rounding::XteaRound;
-use ciphers::{Cipher, Pair, SwapHalves, Undo};
+use ciphers::{Cipher, Four, Pair, SwapHalves, Undo};
 use groups::Sum32;
 use networks::Feistel;
 
@@ -34,6 +34,10 @@ impl Cipher for Xtea {
 
     fn seal(&self, block: u64) -> u64 {
         self.layers.seal(block)
+    }
+
+    fn seal_four(&self, blocks: Four<u64>) -> Four<u64> {
+        self.layers.seal_four(blocks)
     }
 
     fn turn(&mut self) {
