@@ -95,13 +95,13 @@ module _ (d : Direction) (S : ℕ → ℕ) (r : ℕ) (xs ys us vs : List ℕ) (n
       ap (before r (sealed_of d (xs ++ us) (ys ++ vs))) e ∙ chain_second (length us / 8)
 
 -- the run all is xs and then us
-pub both : (d e : Direction) (S : ℕ → ℕ) (r last : ℕ) (all xs ys us vs : List ℕ) → e ≡ d → all ≡ xs ++ us → length xs % 8 ≡ 0 → Rewritten d S r xs ys → last ≡ chain_after d r xs ys → Rewritten e S last us vs → Rewritten d S r all (ys ++ vs)
-both d e S r last all xs ys us vs same parts whole a chain b =
+pub both : (d e : Direction) (S : ℕ → ℕ) (r last : ℕ) (all xs ys us vs : List ℕ) → Rewritten d S r xs ys → Rewritten e S last us vs → e ≡ d → last ≡ chain_after d r xs ys → all ≡ xs ++ us → length xs % 8 ≡ 0 → Rewritten d S r all (ys ++ vs)
+both d e S r last all xs ys us vs a b same chain parts whole =
     let b' : Rewritten d S (chain_after d r xs ys) us vs = subst (λ l. Rewritten d S l us vs) chain (subst (λ k. Rewritten k S last us vs) same b) in
     subst (λ zs. Rewritten d S r zs (ys ++ vs)) (sym parts) (joined d S r xs ys us vs (length xs / 8) (omega arith) a b')
 
-pub chain_both : (d e : Direction) (S : ℕ → ℕ) (r last next : ℕ) (all xs ys us vs : List ℕ) → e ≡ d → all ≡ xs ++ us → length xs % 8 ≡ 0 → Rewritten d S r xs ys → last ≡ chain_after d r xs ys → Rewritten e S last us vs → next ≡ chain_after e last us vs → next ≡ chain_after d r all (ys ++ vs)
-chain_both d e S r last next all xs ys us vs same parts whole a chain b then =
+pub chain_both : (d e : Direction) (S : ℕ → ℕ) (r last next : ℕ) (all xs ys us vs : List ℕ) → Rewritten d S r xs ys → Rewritten e S last us vs → e ≡ d → last ≡ chain_after d r xs ys → all ≡ xs ++ us → length xs % 8 ≡ 0 → next ≡ chain_after e last us vs → next ≡ chain_after d r all (ys ++ vs)
+chain_both d e S r last next all xs ys us vs a b same chain parts whole then =
     let b' : Rewritten d S (chain_after d r xs ys) us vs = subst (λ l. Rewritten d S l us vs) chain (subst (λ k. Rewritten k S last us vs) same b) in
     then
     ∙ ap₂ (λ k l. chain_after k l us vs) same chain

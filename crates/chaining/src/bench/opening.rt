@@ -77,6 +77,7 @@ impl<C: Cipher> Bench<C> {
     }
 
     // Opens a run of whole fours, and answers the chain block that it leaves.
+    #[tactic(auto, using(crate::proofs::Chains::begun_all, crate::proofs::Chains::chain_all))]
     fn open_fours(&self, chain: u64, run: &mut [u8]) -> u64
         requires { length run.old % 32 ≡ 0 }
         ensures opened { Rewritten Opening (C.Cipher.map self.now.cipher) chain run.old run.new }

@@ -33,6 +33,7 @@ impl<C: Cipher> Bench<C> {
     }
 
     // Rewrites the whole run block by block, and answers the chain block that it leaves.
+    #[tactic(auto, using(crate::proofs::Chains::begun_all, crate::proofs::Chains::chain_all))]
     pub(crate) fn rewrite_blocks(&self, chain: u64, run: &mut [u8]) -> u64
         requires { length run.old % 8 ≡ 0 }
         ensures rewritten { Rewritten self.now.direction (C.Cipher.map self.now.cipher) chain run.old run.new }

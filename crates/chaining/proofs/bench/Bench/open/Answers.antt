@@ -7,10 +7,10 @@ pub returns-clause-opened : goal.returns-clause-opened
 returns-clause-opened g c =
     let parts = c.split_at_mut-fours.ensures in
     let fours = c.open_fours-last.ensures in
-    both _ _ _ _ _ _ _ _ _ _ c.requires.opening parts.value (omega (arith, parts.front_len, c.requires.whole)) fours.opened fours.chain c.rewrite_blocks.ensures.rewritten
+    both _ _ _ _ _ _ _ _ _ _ fours.opened c.rewrite_blocks.ensures.rewritten c.requires.opening fours.chain parts.value (omega (arith, parts.front_len, c.requires.whole))
 
 pub returns-clause-chain : goal.returns-clause-chain
 returns-clause-chain g c =
     let parts = c.split_at_mut-fours.ensures in
     let fours = c.open_fours-last.ensures in
-    chain_both _ _ _ _ _ _ _ _ _ _ _ c.requires.opening parts.value (omega (arith, parts.front_len, c.requires.whole)) fours.opened fours.chain c.rewrite_blocks.ensures.rewritten c.rewrite_blocks.ensures.chain
+    chain_both _ _ _ _ _ _ _ _ _ _ _ fours.opened c.rewrite_blocks.ensures.rewritten c.requires.opening fours.chain parts.value (omega (arith, parts.front_len, c.requires.whole)) c.rewrite_blocks.ensures.chain
