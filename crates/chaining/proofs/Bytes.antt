@@ -1,10 +1,12 @@
 -- Bytes are known by their blocks. Assumes nothing.
-use Rattle.std.proofs.Common.{◌≡◌, ℕ, ◌+◌, ◌*◌, ◌/◌, ◌%◌, ◌^◌, ◌<◌, ◌≤◌, List, length, get_or, sym, ap, ◌∙◌, subst, ⊎_elim, arith}
+use Rattle.std.proofs.Common.{◌≡◌, ℕ, ◌+◌, ◌-◌, ◌*◌, ◌/◌, ◌%◌, ◌^◌, ◌<◌, ◌≤◌, List, length, get_or, sym, ap, ◌∙◌, subst, ⊎_elim, arith}
+use borrow.Rule.Slice.PartMut.{put_mid}
 use Rattle.std.specs.Prelude.{slice_range}
 use Rattle.std.proofs.lemmas.Bool.{cases_lt}
 use Rattle.std.proofs.lemmas.List.{ext_get_or, places}
 use Rattle.std.proofs.lemmas.List.Edits.{get_or-between}
 use Rattle.std.proofs.lemmas.Nat.{be_bytes_8}
+use Rattle.std.proofs.lemmas.Slice.{between-put_mid}
 use Rattle.ciphers.proofs.Blocks.{bytes_below}
 use Rattle.chaining.specs.Runs.{Bytes, block}
 
@@ -14,6 +16,10 @@ part_bytes xs i j b k = ⊎_elim
     (λ p. search (places, arith))
     (λ p. search (places, arith))
     (cases_lt k (length (slice_range xs i j)))
+
+-- and so are those that were written to a part
+pub written_bytes : (xs ys : List ℕ) (i j : ℕ) → Bytes (put_mid i (j - i) xs ys) → i ≤ length xs → length ys ≡ j - i → Bytes ys
+written_bytes xs ys i j b p l = subst Bytes (between-put_mid i (j - i) xs ys j p l) (part_bytes (put_mid i (j - i) xs ys) i j b)
 
 -- the bytes of block i
 abbrev bytes_of : List ℕ → ℕ → List ℕ

@@ -1,7 +1,8 @@
-pub mod Blocks
 pub mod Bytes
 pub mod Chains
 pub mod Facing
+pub mod Few
+pub mod Joins
 pub mod Law
 pub mod Mirroring
 pub mod Passing

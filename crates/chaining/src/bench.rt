@@ -3,6 +3,7 @@ ghost use Rattle.std.specs.Prelude.{◌≡◌};
 ghost use Rattle.chaining.specs.Benches.{state_of, begun};
 
 mod calling;
+mod opening;
 mod rewriting;
 
 use crate::direction::Direction;

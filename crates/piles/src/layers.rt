@@ -5,7 +5,7 @@ ghost use Rattle.plans.specs.Stages.{key_length};
 ghost use Rattle.piles.specs.Keyed.{sealed_by};
 ghost use Rattle.piles.specs.Layers.{layered};
 
-use ciphers::{Cipher, Undo};
+use ciphers::{Cipher, Four, Undo};
 use plans::Stage;
 
 // A stage's cipher with its key, or no cipher.
@@ -60,6 +60,18 @@ impl Cipher for Layer {
             Layer::Xtea(cipher) => cipher.seal(block),
             Layer::Wxor(cipher) => cipher.seal(block),
             Layer::Wadd(cipher) => cipher.seal(block),
+        }
+    }
+
+    fn seal_four(&self, blocks: Four<u64>) -> Four<u64> {
+        match self {
+            Layer::Empty => blocks,
+            Layer::Des(cipher) => cipher.seal_four(blocks),
+            Layer::TripleDes(cipher) => cipher.seal_four(blocks),
+            Layer::Idea(cipher) => cipher.seal_four(blocks),
+            Layer::Xtea(cipher) => cipher.seal_four(blocks),
+            Layer::Wxor(cipher) => cipher.seal_four(blocks),
+            Layer::Wadd(cipher) => cipher.seal_four(blocks),
         }
     }
 

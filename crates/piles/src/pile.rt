@@ -7,7 +7,7 @@ ghost use Rattle.piles.specs.Layers.{sealing};
 use crate::keys::{Key, Wiped};
 use crate::layers::Layer;
 use crate::supply::{Layers, layers};
-use ciphers::{Cipher, Pair, Undo};
+use ciphers::{Cipher, Four, Pair, Undo};
 use plans::read;
 use refusals::Refusal;
 
@@ -62,6 +62,10 @@ impl Cipher for Pile {
 
     fn seal(&self, block: u64) -> u64 {
         self.layers.seal(block)
+    }
+
+    fn seal_four(&self, blocks: Four<u64>) -> Four<u64> {
+        self.layers.seal_four(blocks)
     }
 
     fn turn(&mut self) {

@@ -32,8 +32,9 @@ impl<C: Cipher> Bench<C> {
         self.direction.sealed_of(brought, left)
     }
 
-    // Rewrites the whole run, and answers the chain block that it leaves.
-    pub(crate) fn rewrite(&self, chain: u64, run: &mut [u8]) -> u64
+    // Rewrites the whole run block by block, and answers the chain block that it leaves.
+    #[tactic(auto, using(crate::proofs::Chains::begun_all, crate::proofs::Chains::chain_all))]
+    pub(crate) fn rewrite_blocks(&self, chain: u64, run: &mut [u8]) -> u64
         requires { length run.old % 8 ≡ 0 }
         ensures rewritten { Rewritten self.now.direction (C.Cipher.map self.now.cipher) chain run.old run.new }
         ensures chain { result ≡ chain_after self.now.direction chain run.old run.new }
@@ -44,5 +45,17 @@ impl<C: Cipher> Bench<C> {
             latest = self.rewrite_block(latest, &mut run[8 * i..8 * i + 8]);
         }
         latest
+    }
+
+    // Rewrites the whole run. To seal a block takes the sealed one before it, but to open one does not take the opened one.
+    pub(crate) fn rewrite(&self, chain: u64, run: &mut [u8]) -> u64
+        requires { length run.old % 8 ≡ 0 }
+        ensures rewritten { Rewritten self.now.direction (C.Cipher.map self.now.cipher) chain run.old run.new }
+        ensures chain { result ≡ chain_after self.now.direction chain run.old run.new }
+    {
+        match self.direction {
+            Direction::Sealing => self.rewrite_blocks(chain, run),
+            Direction::Opening => self.open(chain, run),
+        }
     }
 }
