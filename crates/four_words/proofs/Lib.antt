@@ -1,3 +1,4 @@
+pub mod Abreast
 pub mod Agreement
 pub mod Filling
 pub mod Lists
