@@ -1,6 +1,8 @@
+pub mod Abreast
 pub mod Agreement
 pub mod Filling
 pub mod Lists
+pub mod Pairs
 pub mod Progress
 pub mod Splitting
 pub mod Turned

@@ -1,3 +1,4 @@
+pub mod Abreast
 pub mod Joining
 pub mod Keying
 pub mod Networks

@@ -10,12 +10,28 @@ use crate::boxes::MixingBox;
 use crate::network::FourWord;
 use ciphers::{Cipher, Undo};
 use groups::Group;
+use networks::Four;
 
 impl<O: Group<Word = u16>, I: Group<Word = u16>, B: MixingBox> Cipher for FourWord<O, I, B> {
     ghost map = { λ n. four_word (network O.Group I.Group B.MixingBox n) };
 
     fn seal(&self, block: u64) -> u64 {
         self.run(block.into()).into()
+    }
+
+    fn seal_four(&self, blocks: Four<u64>) -> Four<u64> {
+        let words = self.run_four(Four {
+            first: blocks.first.into(),
+            second: blocks.second.into(),
+            third: blocks.third.into(),
+            fourth: blocks.fourth.into(),
+        });
+        Four {
+            first: words.first.into(),
+            second: words.second.into(),
+            third: words.third.into(),
+            fourth: words.fourth.into(),
+        }
     }
 
     #[tactic(auto, using(crate::proofs::Splitting::inverse_blocks))]

@@ -3,10 +3,12 @@ ghost use Rattle.std.specs.Prelude.{◌≡◌};
 ghost use Rattle.four_words.specs.Joining.{both, inverses, joined};
 ghost use Rattle.four_words.specs.Quarters.{Fit};
 
+use crate::two::Two;
 use crate::words::Words;
 use groups::Group;
 
 // Words 1 and 4 are joined in the outer group, words 2 and 3 in the inner.
+#[inline(always)]
 pub(crate) fn join<O: Group<Word = u16>, I: Group<Word = u16>>(words: Words, with: Words) -> Words
     ensures { result ≡ joined (both O.Group I.Group) words with }
 {
@@ -18,15 +20,28 @@ pub(crate) fn join<O: Group<Word = u16>, I: Group<Word = u16>>(words: Words, wit
     }
 }
 
+// An inverse may take many joins, so the inverses of both are made of one, that of the two words joined.
+fn both_inverses<G: Group<Word = u16>>(first: u16, second: u16) -> Two<u16>
+    ensures first { result.first ≡ G.Group.inverted first }
+    ensures second { result.second ≡ G.Group.inverted second }
+{
+    let inverse = G::inverse(G::join(first, second));
+    Two {
+        first: G::join(second, inverse),
+        second: G::join(inverse, first),
+    }
+}
+
 // The inverse of each word in its group.
 pub(crate) fn inverses<O: Group<Word = u16>, I: Group<Word = u16>>(words: Words) -> Words
     ensures value { result ≡ inverses (both O.Group I.Group) words }
     ensures fits { Fit result }
 {
+    let outer = both_inverses::<O>(words.first, words.fourth);
     Words {
-        first: O::inverse(words.first),
+        first: outer.first,
         second: I::inverse(words.second),
         third: I::inverse(words.third),
-        fourth: O::inverse(words.fourth),
+        fourth: outer.second,
     }
 }

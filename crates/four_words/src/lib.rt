@@ -14,6 +14,8 @@ mod joins;
 mod keys;
 mod network;
 mod turning;
+mod two;
+mod unpacked;
 mod words;
 
 pub use boxes::MixingBox;

@@ -1,19 +1,23 @@
 // Four-word networks over any two groups and mixing box.
 ghost use Rattle.std.specs.Prelude.{◌≡◌};
+ghost use Rattle.networks.specs.Fours.{each};
 ghost use Rattle.networks.specs.Inverses.{Inverses};
+ghost use Rattle.four_words.specs.Abreast.{both_of, ran_abreast};
 ghost use Rattle.four_words.specs.Joining.{both};
 ghost use Rattle.four_words.specs.Keying.{KeyFits};
 ghost use Rattle.four_words.specs.Networks.{network};
 ghost use Rattle.four_words.specs.Passing.{added, mixed, ran, round, turned, unran, unround};
-ghost use Rattle.four_words.specs.Quarters.{Fit};
+ghost use Rattle.four_words.specs.Quarters.{Fit, exchanged};
 ghost use Rattle.four_words.specs.Turning.{TurnedWords};
 
 use crate::boxes::MixingBox;
 use crate::joins::{inverses, join};
 use crate::keys::KeyWords;
+use crate::two::Two;
+use crate::unpacked::Unpacked;
 use crate::words::{BoxWords, Mixed, RoundWords, Words};
 use groups::Group;
-use networks::WaysBack;
+use networks::{Four, WaysBack};
 use std::marker::PhantomData;
 
 // An outer and an inner group, a mixing box, and the words of the rounds (the structure of Lai and Massey).
@@ -59,6 +63,7 @@ impl<O: Group<Word = u16>, I: Group<Word = u16>, B: MixingBox> FourWord<O, I, B>
     }
 
     // The box is called with word 1 xor word 3 and word 2 xor word 4.
+    #[inline(always)]
     fn mix(&self, with: BoxWords, words: Words) -> Words
         ensures { result ≡ mixed (network O.Group I.Group B.MixingBox self.now) with words }
     {
@@ -67,6 +72,7 @@ impl<O: Group<Word = u16>, I: Group<Word = u16>, B: MixingBox> FourWord<O, I, B>
         add(words, self.mixing.mix(p, q, with))
     }
 
+    #[inline(always)]
     fn round(&self, with: &RoundWords, words: Words) -> Words
         ensures { result ≡ round (network O.Group I.Group B.MixingBox self.now) with.now words }
     {
@@ -79,19 +85,69 @@ impl<O: Group<Word = u16>, I: Group<Word = u16>, B: MixingBox> FourWord<O, I, B>
         join::<O, I>(self.mix(with.mixing, words), inverses::<O, I>(with.joins))
     }
 
-    // The rounds, between which words 2 and 3 change places, and then the closing words. A part of its own, as are
-    // `undone` and `reverse`, so that a wrong step is refused where it is taken, and not where a proof cites it.
+    // A round that is not the first. Words 2 and 3 change places before it.
+    #[inline(always)]
+    fn later(&self, with: &RoundWords, words: Unpacked) -> Unpacked
+        ensures { result ≡ round (network O.Group I.Group B.MixingBox self.now) with.now (exchanged words) }
+    {
+        Unpacked::new(self.round(with, words.words().exchange()))
+    }
+
+    // The rounds, and then the closing words. A part of its own, as are `undone` and `reverse`, so that a wrong step is
+    // refused where it is taken, and not where a proof cites it.
     fn ran(&self, words: Words) -> Words
         ensures value { result ≡ ran (network O.Group I.Group B.MixingBox self.now) words }
         ensures fits { KeyFits self.now.key }
     {
-        let first = self.round(self.key.first(), words);
+        let first = Unpacked::new(self.round(self.key.first(), words));
         let passed = self
             .key
             .others()
             .iter()
-            .fold(first, |state, with| self.round(with, state.exchange()));
-        join::<O, I>(passed, *self.key.closing())
+            .fold(first, |state, with| self.later(with, state));
+        join::<O, I>(passed.words(), *self.key.closing())
+    }
+
+    #[inline(always)]
+    fn first_two(&self, words: Two<Words>) -> Two<Unpacked>
+        ensures { result ≡ both_of (round (network O.Group I.Group B.MixingBox self.now) self.now.key.first) words }
+    {
+        let with = self.key.first();
+        Two {
+            first: Unpacked::new(self.round(with, words.first)),
+            second: Unpacked::new(self.round(with, words.second)),
+        }
+    }
+
+    #[inline(always)]
+    fn later_two(&self, with: &RoundWords, words: Two<Unpacked>) -> Two<Unpacked>
+        ensures { result ≡ both_of (λ w. round (network O.Group I.Group B.MixingBox self.now) with.now (exchanged w)) words }
+    {
+        Two {
+            first: self.later(with, words.first),
+            second: self.later(with, words.second),
+        }
+    }
+
+    // The rounds, each of them of both before the next, and then the closing words.
+    fn ran_abreast(&self, words: Two<Words>) -> Two<Words>
+        ensures { result ≡ ran_abreast (network O.Group I.Group B.MixingBox self.now) words }
+    {
+        let passed = self.key.others().iter().fold(
+            self.first_two(words),
+            |state, with| self.later_two(with, state),
+        );
+        let closing = *self.key.closing();
+        Two {
+            first: join::<O, I>(passed.first.words(), closing),
+            second: join::<O, I>(passed.second.words(), closing),
+        }
+    }
+
+    fn ran_two(&self, words: Two<Words>) -> Two<Words>
+        ensures { result ≡ both_of (ran (network O.Group I.Group B.MixingBox self.now)) words }
+    {
+        self.ran_abreast(words)
     }
 
     // The closing words taken back, and then the rounds, the last one first.
@@ -115,6 +171,26 @@ impl<O: Group<Word = u16>, I: Group<Word = u16>, B: MixingBox> FourWord<O, I, B>
         ensures back { Fit words → ran (turned (network O.Group I.Group B.MixingBox self.now)) result ≡ words }
     {
         self.ran(words)
+    }
+
+    // The same of each four words of four.
+    pub fn run_four(&self, words: Four<Words>) -> Four<Words>
+        ensures { result ≡ each (ran (network O.Group I.Group B.MixingBox self.now)) words }
+    {
+        let front = self.ran_two(Two {
+            first: words.first,
+            second: words.second,
+        });
+        let back = self.ran_two(Two {
+            first: words.third,
+            second: words.fourth,
+        });
+        Four {
+            first: front.first,
+            second: front.second,
+            third: back.first,
+            fourth: back.second,
+        }
     }
 
     // The way back that undoes the rounds. It makes of any words what the turned network makes of them.

@@ -13,6 +13,7 @@ use crate::mixing::IdeaBox;
 use ciphers::{Cipher, Undo};
 use four_words::{FourWord, KeyWords, Rounds, Words};
 use groups::Sum16;
+use networks::Four;
 use products::Product16;
 
 type IdeaNetwork = FourWord<Product16, Sum16, IdeaBox>;
@@ -55,6 +56,10 @@ impl Cipher for Idea {
 
     fn seal(&self, block: u64) -> u64 {
         self.network.seal(block)
+    }
+
+    fn seal_four(&self, blocks: Four<u64>) -> Four<u64> {
+        self.network.seal_four(blocks)
     }
 
     fn turn(&mut self)

@@ -13,13 +13,20 @@ fn key_word(key: u128, i: usize) -> u16
     ((rotated >> (112 - 16 * (i % 8))) % 0x1_0000) as u16
 }
 
-// The words of eight rounds and the closing words.
+// The words of eight rounds and the closing words. The loop for eight words of one rotation is short enough to be unrolled,
+// and then each of them is a shift by a constant.
 #[tactic(auto, using(four_words::proofs::Filling::filled_more, crate::proofs::Filling::filled))]
 fn key_words(key: u128) -> [u16; 52]
     ensures { result ≡ key_words key }
 {
     let mut words = [0; 52];
-    for i in 0..52 {
+    for turn in 0..6 {
+        for place in 0..8 {
+            let i = 8 * turn + place;
+            words[i] = key_word(key, i);
+        }
+    }
+    for i in 48..52 {
         words[i] = key_word(key, i);
     }
     words

@@ -1,5 +1,5 @@
 // The product modulo 65,537 of words of 16 bits, of which 0 stands for 65,536.
-ghost use Rattle.std.specs.Prelude.{◌≡◌, ℕ, ◌%◌, ◌^◌, ◌<◌};
+ghost use Rattle.std.specs.Prelude.{◌≡◌, ℕ, ◌*◌, ◌%◌, ◌^◌, ◌<◌};
 ghost use Rattle.products.specs.Products.{product, squared, stretched, inverse};
 ghost use Rattle.products.specs.Residues.{product_lawful};
 
@@ -18,34 +18,25 @@ fn residue(number: u32) -> u16
     low.wrapping_sub(high).wrapping_add(u16::from(low < high))
 }
 
-// The product of 0, which stands for 65,536 and counts as -1, and a word, on either side.
-#[tactic(auto, using(crate::proofs::Rules::zero_left, crate::proofs::Rules::zero_right))]
-fn negated(word: u16) -> u16
-    ensures left { result ≡ product 0 word }
-    ensures right { result ≡ product word 0 }
-{
-    1u16.wrapping_sub(word)
-}
-
-// The product of two words of which neither is 0.
-#[tactic(auto, using(crate::proofs::Rules::neither))]
-fn multiplied(left: u16, right: u16) -> u16
-    requires some_left { 0 < left }
-    requires some_right { 0 < right }
+// The product of two words of which one is 0. That one stands for 65,536, which counts as -1, so the other is negated.
+#[tactic(auto, using(crate::proofs::Rules::with_zero))]
+fn negated(left: u16, right: u16) -> u16
+    requires zero { left * right ≡ 0 }
     ensures { result ≡ product left right }
 {
-    residue(u32::from(left) * u32::from(right))
+    1u16.wrapping_sub(left).wrapping_sub(right)
 }
 
+// One test serves both words: their product as numbers is 0 where one of them is 0, and nowhere else.
+#[tactic(auto, using(crate::proofs::Rules::without_zero))]
 fn product(left: u16, right: u16) -> u16
     ensures { result ≡ product left right }
 {
-    if left == 0 {
-        negated(right)
-    } else if right == 0 {
-        negated(left)
+    let number = u32::from(left) * u32::from(right);
+    if number == 0 {
+        negated(left, right)
     } else {
-        multiplied(left, right)
+        residue(number)
     }
 }
 
