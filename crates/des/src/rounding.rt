@@ -105,6 +105,7 @@ impl RoundFunction for DesRound {
     ghost within = { λ _ half word. unfold f in picked_below 32 _ permutation };
 
     #[tactic(auto, using(crate::proofs::Merged::f_shares))]
+    #[inline(always)]
     fn mix(&self, half: Spread, kept: u64) -> Spread {
         Spread::from_groups(shares(mixed(half, kept)))
     }
