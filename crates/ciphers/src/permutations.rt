@@ -51,6 +51,7 @@ impl<P: Permutation> BitPermutation<P> {
         }
     }
 
+    #[inline(always)]
     fn through(inverted: bool, block: u64) -> u64
         ensures { result ≡ permuted_by inverted P.table block }
     {

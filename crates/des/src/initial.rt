@@ -24,6 +24,7 @@ impl Permutation for Initial {
     ghost once = { record { whole = refl; places_only = refl; once = refl } };
 
     #[tactic(auto, using(crate::proofs::Swaps::initial_exchanges))]
+    #[inline(always)]
     fn permuted(block: u64) -> u64 {
         let nibbles = exchange(block, 36, 0x0F0F_0F0F);
         let halves = exchange(nibbles, 48, 0xFFFF);
@@ -33,6 +34,7 @@ impl Permutation for Initial {
     }
 
     #[tactic(auto, using(crate::proofs::Swaps::inverse_exchanges))]
+    #[inline(always)]
     fn restored(block: u64) -> u64 {
         let bits = exchange(block, 33, 0x5555_5555);
         let bytes = exchange(bits, 24, 0xFF00_FF00);

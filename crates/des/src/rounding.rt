@@ -49,6 +49,7 @@ fn box_input(groups: u64, index: u32) -> usize
 }
 
 // What box `index + 1` adds to the round function.
+#[inline(always)]
 fn share(groups: u64, index: u32) -> u64
     requires eight { index < 8 }
     requires groups { Groups groups }
@@ -59,6 +60,7 @@ fn share(groups: u64, index: u32) -> u64
 
 // What all boxes add, each spread.
 #[tactic(auto, using(crate::proofs::Merged::shares_spread))]
+#[inline(always)]
 fn added(groups: u64) -> u64
     requires { Groups groups }
     ensures { result ≡ spread (shares (word_of groups)) }
@@ -75,6 +77,7 @@ fn added(groups: u64) -> u64
 
 // The same, and that it has the half.
 #[tactic(auto, using(crate::proofs::Merged::shares_back))]
+#[inline(always)]
 fn shares(groups: u64) -> u64
     requires { Groups groups }
     ensures value { result ≡ spread (shares (word_of groups)) }

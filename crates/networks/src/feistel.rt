@@ -39,69 +39,109 @@ impl<G: Group, F: RoundFunction<Half = G::Word>, const N: usize> Feistel<G, F, N
         }
     }
 
-    // The round function, or its inverse in the group where the network is turned.
-    fn applied(&self, half: G::Word, kept: u64) -> G::Word
+    // The round function, or its inverse in the group where the network is turned. Whether it is turned is a parameter here
+    // and below, so that it is asked once for a block and not once a round.
+    #[inline(always)]
+    fn applied(&self, inverted: bool, half: G::Word, kept: u64) -> G::Word
+        requires { inverted ≡ self.now.inverted }
         ensures { result ≡ applied (network G.Group F.RoundFunction self.now) half (F.RoundFunction.word_of kept) }
     {
         let value = self.function.mix(half, kept);
-        if self.inverted {
+        if inverted {
             G::inverse(value)
         } else {
             value
         }
     }
 
-    fn round(&self, kept: u64, halves: Halves<G::Word>) -> Halves<G::Word>
+    #[inline(always)]
+    fn round(&self, inverted: bool, kept: u64, halves: Halves<G::Word>) -> Halves<G::Word>
+        requires { inverted ≡ self.now.inverted }
         ensures { result ≡ round (network G.Group F.RoundFunction self.now) (F.RoundFunction.word_of kept) halves }
     {
         Halves {
             left: halves.right,
-            right: G::join(halves.left, self.applied(halves.right, kept)),
+            right: G::join(halves.left, self.applied(inverted, halves.right, kept)),
         }
     }
 
     fn unround(&self, kept: u64, halves: Halves<G::Word>) -> Halves<G::Word>
         ensures { result ≡ unround (network G.Group F.RoundFunction self.now) (F.RoundFunction.word_of kept) halves }
     {
+        let value = self.applied(self.inverted, halves.left, kept);
         Halves {
-            left: G::join(halves.right, G::inverse(self.applied(halves.left, kept))),
+            left: G::join(halves.right, G::inverse(value)),
             right: halves.left,
         }
     }
 
-    // The rounds in order.
-    fn rounds(&self, halves: Halves<G::Word>) -> Halves<G::Word>
+    // The rounds in order, two at a time: in two of them each half comes back to its own place.
+    #[inline(always)]
+    fn rounds_as(&self, inverted: bool, halves: Halves<G::Word>) -> Halves<G::Word>
+        requires { inverted ≡ self.now.inverted }
         ensures { result ≡ rounds (network G.Group F.RoundFunction self.now) self.now.schedule halves }
     {
-        self.schedule.kept().iter().fold(
-            halves,
-            |state, kept| -> Halves<G::Word>
-                ensures { result ≡ round (network G.Group F.RoundFunction self.entry.now) (F.RoundFunction.word_of kept.now) state }
-            { self.round(*kept, state) },
-        )
-    }
-
-    fn round_four(&self, kept: u64, halves: Four<Halves<G::Word>>) -> Four<Halves<G::Word>>
-        ensures { result ≡ each (round (network G.Group F.RoundFunction self.now) (F.RoundFunction.word_of kept)) halves }
-    {
-        Four {
-            first: self.round(kept, halves.first),
-            second: self.round(kept, halves.second),
-            third: self.round(kept, halves.third),
-            fourth: self.round(kept, halves.fourth),
+        let mut state = halves;
+        let mut left = self.schedule.kept();
+        while let [first, second, rest @ ..] = left {
+            state = self.round(inverted, *second, self.round(inverted, *first, state));
+            left = rest;
+        }
+        match left {
+            [last, ..] => self.round(inverted, *last, state),
+            [] => state,
         }
     }
 
-    // The rounds in order, each of them of four pairs of halves before the next.
+    fn rounds(&self, halves: Halves<G::Word>) -> Halves<G::Word>
+        ensures { result ≡ rounds (network G.Group F.RoundFunction self.now) self.now.schedule halves }
+    {
+        if self.inverted {
+            self.rounds_as(true, halves)
+        } else {
+            self.rounds_as(false, halves)
+        }
+    }
+
+    #[inline(always)]
+    fn round_four(&self, inverted: bool, kept: u64, halves: Four<Halves<G::Word>>) -> Four<Halves<G::Word>>
+        requires { inverted ≡ self.now.inverted }
+        ensures { result ≡ each (round (network G.Group F.RoundFunction self.now) (F.RoundFunction.word_of kept)) halves }
+    {
+        Four {
+            first: self.round(inverted, kept, halves.first),
+            second: self.round(inverted, kept, halves.second),
+            third: self.round(inverted, kept, halves.third),
+            fourth: self.round(inverted, kept, halves.fourth),
+        }
+    }
+
+    // The rounds of four pairs of halves, a round of each of them before the next round.
+    #[inline(always)]
+    fn rounds_abreast_as(&self, inverted: bool, halves: Four<Halves<G::Word>>) -> Four<Halves<G::Word>>
+        requires { inverted ≡ self.now.inverted }
+        ensures { result ≡ rounds_abreast (network G.Group F.RoundFunction self.now) self.now.schedule halves }
+    {
+        let mut state = halves;
+        let mut left = self.schedule.kept();
+        while let [first, second, rest @ ..] = left {
+            state = self.round_four(inverted, *second, self.round_four(inverted, *first, state));
+            left = rest;
+        }
+        match left {
+            [last, ..] => self.round_four(inverted, *last, state),
+            [] => state,
+        }
+    }
+
     fn rounds_abreast(&self, halves: Four<Halves<G::Word>>) -> Four<Halves<G::Word>>
         ensures { result ≡ rounds_abreast (network G.Group F.RoundFunction self.now) self.now.schedule halves }
     {
-        self.schedule.kept().iter().fold(
-            halves,
-            |state, kept| -> Four<Halves<G::Word>>
-                ensures { result ≡ each (round (network G.Group F.RoundFunction self.entry.now) (F.RoundFunction.word_of kept.now)) state }
-            { self.round_four(*kept, state) },
-        )
+        if self.inverted {
+            self.rounds_abreast_as(true, halves)
+        } else {
+            self.rounds_abreast_as(false, halves)
+        }
     }
 
     fn rounds_four(&self, halves: Four<Halves<G::Word>>) -> Four<Halves<G::Word>>
