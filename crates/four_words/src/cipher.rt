@@ -8,9 +8,8 @@ ghost use Rattle.four_words.specs.Quarters.{block_of, words_of};
 
 use crate::boxes::MixingBox;
 use crate::network::FourWord;
-use ciphers::{Cipher, Undo};
+use ciphers::{Cipher, Four, Undo};
 use groups::Group;
-use networks::Four;
 
 impl<O: Group<Word = u16>, I: Group<Word = u16>, B: MixingBox> Cipher for FourWord<O, I, B> {
     ghost map = { λ n. four_word (network O.Group I.Group B.MixingBox n) };

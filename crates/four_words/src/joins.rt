@@ -20,16 +20,25 @@ pub(crate) fn join<O: Group<Word = u16>, I: Group<Word = u16>>(words: Words, wit
     }
 }
 
-// An inverse may take many joins, so the inverses of both are made of one, that of the two words joined.
-fn both_inverses<G: Group<Word = u16>>(first: u16, second: u16) -> Two<u16>
-    ensures first { result.first ≡ G.Group.inverted first }
-    ensures second { result.second ≡ G.Group.inverted second }
+// The inverse of two words joined, with each of them taken off it. A part of its own, so that a wrong order is refused where
+// it is chosen, and not where a proof cites it.
+fn parted<G: Group<Word = u16>>(first: u16, second: u16) -> Two<u16>
+    ensures first { result.first ≡ G.Group.joined second (G.Group.inverted (G.Group.joined first second)) }
+    ensures second { result.second ≡ G.Group.joined (G.Group.inverted (G.Group.joined first second)) first }
 {
     let inverse = G::inverse(G::join(first, second));
     Two {
         first: G::join(second, inverse),
         second: G::join(inverse, first),
     }
+}
+
+// The inverses of two words, by one: an inverse may take many joins.
+fn both_inverses<G: Group<Word = u16>>(first: u16, second: u16) -> Two<u16>
+    ensures first { result.first ≡ G.Group.inverted first }
+    ensures second { result.second ≡ G.Group.inverted second }
+{
+    parted::<G>(first, second)
 }
 
 // The inverse of each word in its group.

@@ -2,9 +2,10 @@
 // group and a mixing box, with both of their ways back.
 //
 // Promises, for every two lawful groups, mixing box, number of rounds from 1 to 8 and choice of round words:
-// `FourWord::run` answers what the definition of the network says; `turn` gives each round the words that its definition
-// names, and the turned network is the inverse; undoing the rounds and running the turned network make the same of any
-// four words (`undo`, `ways_back`). Every such network is a cipher, with word 1 most significant. No call refuses.
+// `FourWord::run` answers what the definition of the network says, and `run_four` the same for each of four; `turn` gives
+// each round the words that its definition names, and the turned network is the inverse; undoing the rounds and running the
+// turned network make the same of any four words (`undo`, `ways_back`). Every such network is a cipher, with word 1 most
+// significant. No call refuses.
 #![tactic(auto)]
 
 mod boxes;

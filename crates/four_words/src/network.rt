@@ -173,7 +173,7 @@ impl<O: Group<Word = u16>, I: Group<Word = u16>, B: MixingBox> FourWord<O, I, B>
         self.ran(words)
     }
 
-    // The same of each four words of four.
+    // Four times four words, each run by itself.
     pub fn run_four(&self, words: Four<Words>) -> Four<Words>
         ensures { result ≡ each (ran (network O.Group I.Group B.MixingBox self.now)) words }
     {

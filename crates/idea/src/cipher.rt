@@ -10,10 +10,9 @@ ghost use Rattle.idea.specs.Sealing.{groups, sealing};
 
 use crate::expansion::key_schedule;
 use crate::mixing::IdeaBox;
-use ciphers::{Cipher, Undo};
+use ciphers::{Cipher, Four, Undo};
 use four_words::{FourWord, KeyWords, Rounds, Words};
 use groups::Sum16;
-use networks::Four;
 use products::Product16;
 
 type IdeaNetwork = FourWord<Product16, Sum16, IdeaBox>;
