@@ -2,9 +2,9 @@
 use Rattle.std.proofs.Common.{◌≡◌, ℕ, ◌^◌, ◌<◌, ap, ap₂, ◌∙◌}
 use Rattle.networks.specs.declared.pairs.Halves.{Halves}
 use Rattle.networks.specs.HalfWords.{Faithful}
-use Rattle.networks.specs.Halves.{Words, block_of, halves_of}
+use Rattle.networks.specs.Halves.{Words, block_of}
 use Rattle.networks.specs.Inverses.{Inverses}
-use Rattle.networks.specs.Rounds.{Network, ran, unran}
+use Rattle.networks.specs.Rounds.{Network, ran}
 use Rattle.networks.proofs.Splits.{block_fits, block_halves, halves_block, halves_fit}
 use Rattle.ciphers.specs.Blocks.{block_of_words, feistel_of, words_of}
 use Rattle.ciphers.specs.Maps.{Inverse}

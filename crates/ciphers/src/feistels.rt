@@ -31,7 +31,8 @@ fn join<W: HalfWord>(halves: Halves<W>) -> u64
     .into()
 }
 
-impl<W: HalfWord, G: Group<Word = W>, F: RoundFunction<Half = W>, const N: usize> Cipher for Feistel<G, F, N> {
+impl<W: HalfWord, G: Group<Word = W>, F: RoundFunction<Half = W>, const N: usize> Cipher
+    for Feistel<G, F, N> {
     ghost map = { λ n. feistel_of W.HalfWord.word_of W.HalfWord.number_of (network G.Group F.RoundFunction n) };
 
     fn seal(&self, block: u64) -> u64 {
@@ -61,7 +62,8 @@ impl<W: HalfWord, G: Group<Word = W>, F: RoundFunction<Half = W>, const N: usize
     }
 }
 
-impl<W: HalfWord, G: Group<Word = W>, F: RoundFunction<Half = W>, const N: usize> Undo for Feistel<G, F, N> {
+impl<W: HalfWord, G: Group<Word = W>, F: RoundFunction<Half = W>, const N: usize> Undo
+    for Feistel<G, F, N> {
     fn undo(&self, block: u64) -> u64 {
         join(self.undo(split(block)))
     }

@@ -27,7 +27,7 @@ names = record { whole = refl; places_only = refl; once = refl }
 first_last : (b : ℕ) → b < 2 ^ 64 → picked 64 final (picked 64 initial b) ≡ b
 first_last b p = subst (λ t. picked 64 t (picked 64 initial b) ≡ b) final_is (inverse_after 64 initial names b p)
 
-last_first : (b : ℕ) → b < 2 ^ 64 → picked 64 initial (picked 64 final b) ≡ b
+pub last_first : (b : ℕ) → b < 2 ^ 64 → picked 64 initial (picked 64 final b) ≡ b
 last_first b p = subst (λ t. picked 64 initial (picked 64 t b) ≡ b) final_is (inverse_before 64 initial names b p)
 
 -- the network that takes a network's rounds back has the round words in the reverse order

@@ -1,14 +1,10 @@
 -- Halves and words as the boxes take them. Assumes nothing.
-use Rattle.std.proofs.Common.{◌≡◌, ℕ, ◌+◌, ◌-◌, ◌*◌, ◌/◌, ◌%◌, ◌^◌, ◌<◌, true, refl, sym, ap, ap₂, ◌∙◌, arith}
-use Rattle.std.specs.List.{list_all, range_with_len}
+use Rattle.std.proofs.Common.{◌≡◌, ℕ, ◌*◌, ◌/◌, ◌%◌, ◌^◌, ◌<◌, true, refl, sym, ap, ◌∙◌}
 use Rattle.std.specs.Int.Bits.{bit_and, bit_xor}
 use Rattle.std.proofs.lemmas.Nat.{xor_lt}
-use Rattle.selections.specs.Selections.{picked}
-use Rattle.selections.proofs.Linear.{Linear, agree, each_below, linear_id, linear_after, linear_and, linear_mod, linear_picked, linear_shl, linear_shr, linear_xor, picked_xor, same_linear}
+use Rattle.selections.proofs.Linear.{Linear, agree, linear_id, linear_after, linear_and, linear_mod, linear_picked, linear_shl, linear_shr, linear_xor, picked_xor, same_linear}
 use Rattle.selections.proofs.Picked.{picked_below}
-use Rattle.des.specs.Des.{group}
-use Rattle.des.specs.Tables.{expansion}
-use Rattle.des.specs.Spread.{Groups, byte_of, half_of, half_table, spread, spread_table, word_of, word_table}
+use Rattle.des.specs.Spread.{Groups, half_of, half_table, spread, spread_table}
 
 -- a half spread by shifts
 abbrev shifted : ℕ → ℕ

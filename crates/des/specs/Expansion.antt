@@ -1,5 +1,5 @@
 -- The key schedule by tables and exchanges: what the faster key schedule computes. No public clause cites it, so nothing here need be believed. Assumes nothing.
-use Rattle.std.specs.Prelude.{ℕ, ◌+◌, ◌*◌, ◌/◌, ◌%◌, ◌^◌, List, [], ◌∷◌, map, bit_xor}
+use Rattle.std.specs.Prelude.{ℕ, ◌+◌, ◌*◌, ◌/◌, ◌%◌, ◌^◌, List, ◌∷◌, map, bit_xor}
 use Rattle.std.specs.List.{flat_map, fold, range_with_len}
 use Rattle.selections.specs.Selections.{picked}
 use Rattle.des.specs.Spread.{boxes}

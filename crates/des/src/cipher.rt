@@ -13,9 +13,11 @@ use crate::spread::XorSpread;
 use ciphers::{BitPermutation, Cipher, Four, Pair, Undo};
 use networks::Feistel;
 
+pub(crate) type Network = Feistel<XorSpread, DesRound, 16>;
+
 #[derive(Drop)]
 pub struct Des {
-    layers: Pair<BitPermutation<Initial>, Pair<Feistel<XorSpread, DesRound, 16>, BitPermutation<Initial>>>,
+    layers: Pair<BitPermutation<Initial>, Pair<Network, BitPermutation<Initial>>>,
 }
 
 impl Des {

@@ -2,17 +2,47 @@
 ghost use Rattle.std.specs.Prelude.{◌≡◌, ◌≤◌, ◌+◌, ◌*◌, length, take, drop};
 ghost use Rattle.std.specs.Int.{from_be_bytes, w64};
 ghost use Rattle.ciphers.specs.Maps.{SameMap};
-ghost use Rattle.des.specs.Triple.{tdea, key_at};
+ghost use Rattle.des.specs.Sealing.{enciphering, sealing_three};
+ghost use Rattle.des.specs.Keys.{round_words};
+ghost use Rattle.des.specs.Triple.{tdea, in_network, key_at};
 
-use crate::cipher::Des;
-use ciphers::{Cipher, Ede};
+use crate::cipher::Network;
+use crate::initial::Initial;
+use crate::keys::key_schedule;
+use crate::rounding::DesRound;
+use ciphers::{BitPermutation, Cipher, Ede, Four, Pair, Undo};
+use networks::Feistel;
 
-pub type TripleDes = Ede<Des>;
+// Three networks between the permutations. Between one DES and the next there is none, since the inverse of the initial
+// permutation and the initial permutation take each other back.
+#[derive(Drop)]
+pub struct TripleDes {
+    layers: Pair<BitPermutation<Initial>, Pair<Ede<Network>, BitPermutation<Initial>>>,
+}
+
+fn network(key: &[u8; 8]) -> Network
+    ensures { ⟦<Network as Cipher>⟧.map result ≡ enciphering (round_words (from_be_bytes w64 key.now)) }
+{
+    Feistel::new(DesRound, key_schedule(key))
+}
+
+// The networks of three keys in turn, the second taken back.
+fn networks(first: &[u8; 8], second: &[u8; 8], third: &[u8; 8]) -> Ede<Network>
+    ensures { SameMap (⟦<Ede<Network> as Cipher>⟧.map result) (in_network (from_be_bytes w64 first.now) (from_be_bytes w64 second.now) (from_be_bytes w64 third.now)) }
+{
+    Ede::new(network(first), network(second), network(third))
+}
 
 fn under(first: &[u8; 8], second: &[u8; 8], third: &[u8; 8]) -> TripleDes
-    ensures { SameMap (⟦<Ede<Des> as Cipher>⟧.map result) (tdea (from_be_bytes w64 first.now) (from_be_bytes w64 second.now) (from_be_bytes w64 third.now)) }
+    ensures { SameMap (⟦<TripleDes as Cipher>⟧.map result) (tdea (from_be_bytes w64 first.now) (from_be_bytes w64 second.now) (from_be_bytes w64 third.now)) }
 {
-    Ede::new(Des::new(first), Des::new(second), Des::new(third))
+    let inner = networks(first, second, third);
+    TripleDes {
+        layers: Pair::new(
+            BitPermutation::new(),
+            Pair::new(inner, BitPermutation::inverse()),
+        ),
+    }
 }
 
 // Key `index` of several, from 0.
@@ -28,7 +58,7 @@ fn key_at(keys: &[u8], index: usize) -> &[u8; 8]
 // Three keys of eight bytes, one after another.
 #[tactic(auto, unfolding(crate::specs::Triple::key_at))]
 pub fn ede3(keys: &[u8; 24]) -> TripleDes
-    ensures { SameMap (⟦<Ede<Des> as Cipher>⟧.map result) (tdea (key_at keys.now 0) (key_at keys.now 1) (key_at keys.now 2)) }
+    ensures { SameMap (⟦<TripleDes as Cipher>⟧.map result) (tdea (key_at keys.now 0) (key_at keys.now 1) (key_at keys.now 2)) }
 {
     under(key_at(keys, 0), key_at(keys, 1), key_at(keys, 2))
 }
@@ -36,7 +66,29 @@ pub fn ede3(keys: &[u8; 24]) -> TripleDes
 // Two keys of eight bytes, one after the other; the third is the first.
 #[tactic(auto, unfolding(crate::specs::Triple::key_at))]
 pub fn ede2(keys: &[u8; 16]) -> TripleDes
-    ensures { SameMap (⟦<Ede<Des> as Cipher>⟧.map result) (tdea (key_at keys.now 0) (key_at keys.now 1) (key_at keys.now 0)) }
+    ensures { SameMap (⟦<TripleDes as Cipher>⟧.map result) (tdea (key_at keys.now 0) (key_at keys.now 1) (key_at keys.now 0)) }
 {
     under(key_at(keys, 0), key_at(keys, 1), key_at(keys, 0))
+}
+
+impl Cipher for TripleDes {
+    ghost map = { sealing_three };
+
+    fn seal(&self, block: u64) -> u64 {
+        self.layers.seal(block)
+    }
+
+    fn seal_four(&self, blocks: Four<u64>) -> Four<u64> {
+        self.layers.seal_four(blocks)
+    }
+
+    fn turn(&mut self) {
+        self.layers.turn();
+    }
+}
+
+impl Undo for TripleDes {
+    fn undo(&self, block: u64) -> u64 {
+        self.layers.undo(block)
+    }
 }

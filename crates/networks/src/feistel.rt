@@ -47,11 +47,7 @@ impl<G: Group, F: RoundFunction<Half = G::Word>, const N: usize> Feistel<G, F, N
         ensures { result ≡ applied (network G.Group F.RoundFunction self.now) half (F.RoundFunction.word_of kept) }
     {
         let value = self.function.mix(half, kept);
-        if inverted {
-            G::inverse(value)
-        } else {
-            value
-        }
+        if inverted { G::inverse(value) } else { value }
     }
 
     #[inline(always)]
@@ -104,7 +100,12 @@ impl<G: Group, F: RoundFunction<Half = G::Word>, const N: usize> Feistel<G, F, N
     }
 
     #[inline(always)]
-    fn round_four(&self, inverted: bool, kept: u64, halves: Four<Halves<G::Word>>) -> Four<Halves<G::Word>>
+    fn round_four(
+        &self,
+        inverted: bool,
+        kept: u64,
+        halves: Four<Halves<G::Word>>,
+    ) -> Four<Halves<G::Word>>
         requires { inverted ≡ self.now.inverted }
         ensures { result ≡ each (round (network G.Group F.RoundFunction self.now) (F.RoundFunction.word_of kept)) halves }
     {
@@ -118,7 +119,11 @@ impl<G: Group, F: RoundFunction<Half = G::Word>, const N: usize> Feistel<G, F, N
 
     // The rounds of four pairs of halves, a round of each of them before the next round.
     #[inline(always)]
-    fn rounds_abreast_as(&self, inverted: bool, halves: Four<Halves<G::Word>>) -> Four<Halves<G::Word>>
+    fn rounds_abreast_as(
+        &self,
+        inverted: bool,
+        halves: Four<Halves<G::Word>>,
+    ) -> Four<Halves<G::Word>>
         requires { inverted ≡ self.now.inverted }
         ensures { result ≡ rounds_abreast (network G.Group F.RoundFunction self.now) self.now.schedule halves }
     {

@@ -3,7 +3,7 @@ use Rattle.std.proofs.Common.{ap, ◌∙◌}
 use Rattle.networks.specs.Networks.{network}
 use Rattle.networks.specs.Rounds.{ran, turned}
 use Rattle.networks.proofs.TwoWays.{inverses}
-use Rattle.ciphers.specs.Blocks.{feistel_of, block_of_words}
+use Rattle.ciphers.specs.Blocks.{feistel_of}
 use Rattle.ciphers.proofs.Networks.{undone_block}
 use Rattle.ciphers.proofs.feistels.FeistelUndo.undo.Goals as goal
 
