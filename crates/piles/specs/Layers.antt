@@ -1,7 +1,7 @@
 -- The maps of a pile and of its layers. Assumes nothing.
 use Rattle.std.specs.Prelude.{ℕ, bit_xor, ◌^◌}
 use Rattle.groups.specs.Sums.{sum}
-use Rattle.ciphers.specs.Maps.{composed, in_turn}
+use Rattle.ciphers.specs.Maps.{composed}
 use Rattle.whitening.specs.Whitening.{joined_with}
 use Rattle.xtea.specs.Sealing as xtea
 use Rattle.des.specs.Sealing as des
@@ -14,7 +14,7 @@ use Rattle.piles.specs.declared.pile.Pile.{Pile}
 abbrev pub layered : Layer → ℕ → ℕ
 layered Empty b = b
 layered (Des c) b = des.sealing c b
-layered (TripleDes c) b = in_turn (des.sealing c.first) (des.sealing c.second) (des.sealing c.third) b
+layered (TripleDes c) b = des.sealing_three c b
 layered (Idea c) b = idea.sealing c b
 layered (Xtea c) b = xtea.sealing c b
 layered (Wxor c) b = joined_with bit_xor c.words b
