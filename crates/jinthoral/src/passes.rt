@@ -1,5 +1,6 @@
 // Runs passed on a new bench.
 ghost use Rattle.std.specs.Prelude.{◌≡◌, length, replicate};
+ghost use Rattle.chaining.specs.declared.direction.Direction.TheVariants.{Sealing};
 ghost use Rattle.piles.specs.Fitting.{fitting};
 ghost use Rattle.piles.specs.Layers.{sealing};
 ghost use Rattle.jinthoral.specs.Calls.{MapOf, Passes, Under, direction_of};
@@ -8,24 +9,24 @@ use chaining::Bench;
 use piles::Pile;
 use refusals::Refusal;
 
-// A new bench on a pile, turned where it is to open.
-fn bench_on(pile: Pile, opening: bool) -> Bench<Pile>
-    ensures map { MapOf (direction_of opening) (sealing pile) (sealing result.cipher) }
-    ensures direction { result.direction ≡ direction_of opening }
+// Turns a new bench where it is to open.
+fn face(bench: &mut Bench<Pile>, opening: bool)
+    requires { bench.old.direction ≡ Sealing }
+    ensures map { MapOf (direction_of opening) (sealing bench.old.cipher) (sealing bench.new.cipher) }
+    ensures direction { bench.new.direction ≡ direction_of opening }
 {
-    let mut bench = Bench::new(pile);
     if opening {
         bench.turn();
     }
-    bench
 }
 
-// Restarts a new bench, and passes a run.
+// Restarts a new bench, turned where it is to open, and passes a run.
 #[tactic(auto, unfolding(crate::specs::Calls::Passes))]
 fn pass_on(pile: Pile, opening: bool, start: &[u8], run: &mut [u8]) -> Result<usize, Refusal>
     ensures { Passes (direction_of opening) start.now (sealing pile) run.old result run.new }
 {
-    let mut bench = bench_on(pile, opening);
+    let mut bench = Bench::new(pile);
+    face(&mut bench, opening);
     bench.restart(start)?;
     bench.pass(run)?;
     Ok(run.len())

@@ -1,4 +1,5 @@
 pub mod Below
 pub mod Examples
 pub mod Four
+pub mod Kept
 pub mod Turning

@@ -30,7 +30,9 @@ fn sized<const N: usize>(bytes: &[u8]) -> &[u8; N]
 }
 
 impl Layer {
-    // The cipher of a stage under its key.
+    // The cipher of a stage under its key. Not inlined, since a function pays at entry for the room of its locals, and an
+    // empty layer needs none of them.
+    #[inline(never)]
     pub(crate) fn new(stage: Stage, key: &[u8]) -> Layer
         requires { length key.now ≡ key_length stage }
         ensures map { SameMap (layered result) (sealed_by stage key.now) }
@@ -51,6 +53,7 @@ impl Layer {
 impl Cipher for Layer {
     ghost map = { layered };
 
+    #[inline(always)]
     fn seal(&self, block: u64) -> u64 {
         match self {
             Layer::Empty => block,
@@ -63,6 +66,7 @@ impl Cipher for Layer {
         }
     }
 
+    #[inline(always)]
     fn seal_four(&self, blocks: Four<u64>) -> Four<u64> {
         match self {
             Layer::Empty => blocks,

@@ -31,18 +31,14 @@ impl Pile {
 
     // Reads a description, takes over a key, and fills the pile with the stages from left to right, each under its bytes
     // of the key, in place of what it held. The key's bytes are zeros afterwards.
+    #[tactic(auto, using(crate::proofs::Kept::kept))]
     pub fn fit(&mut self, description: &[u8], key: Key<'_>) -> Result<(), Refusal>
         ensures answer { result ≡ answer (fitting description.now key.entry.0.now) }
         ensures map { SameMap (sealing self.new) (map_after (fitting description.now key.entry.0.now) key.entry.0.now (sealing self.old)) }
         ensures blank { key.exit.0.now ≡ replicate (length key.entry.0.now) 0 }
     {
         let Key(bytes) = key;
-        let key = Wiped(bytes);
-        let plan = read(description)?;
-        if key.0.len() != plan.key_length() {
-            return Err(Refusal::KeyLength);
-        }
-        self.layers = layers(plan.stages(), key.0);
+        *self = Pile::fitted(description, bytes)?;
         Ok(())
     }
 
@@ -51,9 +47,14 @@ impl Pile {
         ensures pile { Answers (fitting description.now bytes.old) bytes.old result }
         ensures blank { bytes.new ≡ replicate (length bytes.old) 0 }
     {
-        let mut pile = Pile::new();
-        pile.fit(description, Key::new(bytes))?;
-        Ok(pile)
+        let key = Wiped(bytes);
+        let plan = read(description)?;
+        if key.0.len() != plan.key_length() {
+            return Err(Refusal::KeyLength);
+        }
+        Ok(Pile {
+            layers: layers(plan.stages(), key.0),
+        })
     }
 }
 

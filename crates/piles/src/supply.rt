@@ -48,9 +48,8 @@ pub(crate) fn layers(stages: &[Stage], key: &[u8]) -> Layers
     ensures { SameMap (⟦<Layers as Cipher>⟧.map result) (sealed_by_all stages.now key.now) }
 {
     let mut supply = Supply { stages, key };
-    let first = supply.next();
-    let second = supply.next();
-    let third = supply.next();
-    let fourth = supply.next();
-    Pair::new(Pair::new(first, second), Pair::new(third, fourth))
+    Pair::new(
+        Pair::new(supply.next(), supply.next()),
+        Pair::new(supply.next(), supply.next()),
+    )
 }

@@ -5,10 +5,10 @@ use Rattle.piles.proofs.supply.layers.Goals as goal
 
 pub returns : goal.returns
 returns c =
-    let first = c.next-first in
-    let second = c.next-second in
-    let third = c.next-third in
-    let fourth = c.next-fourth in
+    let first = c.next in
+    let second = c.next-2 in
+    let third = c.next-3 in
+    let fourth = c.next-4 in
     let none : length fourth.new.self.stages.now ≡ 0 = omega (arith, c.requires.few, first.ensures.stages, second.ensures.stages, third.ensures.stages, fourth.ensures.stages) in
     rw (c.new-3.ensures.first, c.new-3.ensures.second, c.new-3.ensures.order, c.new-2.ensures.first, c.new-2.ensures.second, c.new-2.ensures.order, c.new.ensures.first, c.new.ensures.second, c.new.ensures.order)
     (four first.result second.result third.result fourth.result
