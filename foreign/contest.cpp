@@ -6,7 +6,7 @@
 
 namespace foreign {
 
-constexpr std::size_t turns_timed = 2;
+constexpr std::size_t times_counted = 2;
 
 std::unique_ptr<Contestant> make_contestant(Entrant entrant, const Task &task, const Bytes &key) {
     switch (entrant) {
@@ -46,22 +46,25 @@ void Contest::demand_agreement() const {
     const Bytes ours = chained(*places[0].contestant);
     for (std::size_t i = 1; i < entrants; i++)
         if (places[i].contestant && chained(*places[i].contestant) != ours)
-            throw std::runtime_error(std::string(entrant_names[i]) + " disagrees with ours about " + facts_of(task.family).name);
+            throw std::runtime_error(std::string(entrant_names[i]) + " disagrees with ours about " +
+                                     facts_of(task.family).name);
 }
 
-// The first time is not counted: the tables and the code that it needs may not be at hand. All the work is done by libraries
+// The first time is not counted: the tables and the code that the work needs may not be at hand. All work is done by libraries
 // that were compiled apart, so none of it can be left out.
-void Contest::take_turn(Place &place) {
-    place.contestant->prepare();
+template <class Work> static void time(Least &least, const Bytes &given, const Work &work) {
     Least uncounted;
-    for (std::size_t i = 0; i <= turns_timed; i++) {
-        Bytes run = plain;
-        (i == 0 ? uncounted : place.chain).time([&] { place.contestant->chain(start.data(), run.data(), run.size()); });
+    for (std::size_t i = 0; i <= times_counted; i++) {
+        Bytes taken = given;
+        (i == 0 ? uncounted : least).time([&] { work(taken); });
     }
-    for (std::size_t i = 0; i <= turns_timed; i++) {
-        Bytes taken = batch;
-        (i == 0 ? uncounted : place.keys).time([&] { place.contestant->set_keys(taken); });
-    }
+}
+
+void Contest::take_turn(Place &place) {
+    Contestant &contestant = *place.contestant;
+    contestant.prepare();
+    time(place.chain, plain, [&](Bytes &run) { contestant.chain(start.data(), run.data(), run.size()); });
+    time(place.keys, batch, [&](Bytes &keys) { contestant.set_keys(keys); });
 }
 
 // So often that the clock's own time does not count.

@@ -55,8 +55,8 @@ public:
 
     void hold_round();
 
-    // Nanoseconds, or nothing where the entrant does not take part: for the long run, for one of the keys set up, and for one of
-    // the runs of `blocks_measured`, which are ours alone.
+    // Nanoseconds, or nothing where the entrant does not take part: for the long run, for one of the keys set up, and for one
+    // of the runs of `blocks_measured`, which are ours alone.
     std::optional<double> chain_time(Entrant entrant) const { return told(entrant, &Place::chain); }
     std::optional<double> key_time(Entrant entrant) const;
     double short_run_time(std::size_t which) const;

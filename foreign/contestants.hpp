@@ -20,7 +20,7 @@ public:
 };
 
 // Botan stands here twice. On processors with SSE2 its IDEA takes eight blocks at once where they do not wait for each other,
-// as when a run is opened. All other ciphers of these three packages, that one without SSE2 among them, take no more than
+// as when a run is opened. All other ciphers of these three packages, that one without SSE2 among them, do their work in
 // general registers.
 enum class Entrant { Library, OpenSsl, CryptoPp, Botan, BotanWithoutSimd };
 

@@ -15,9 +15,9 @@ static void let_use_simd(bool allowed) {
     using CPUID = Botan::CPUID;
     CPUID::initialize();
     if (allowed) return;
-    for (const auto bit : {CPUID::CPUID_SSE2_BIT, CPUID::CPUID_SSSE3_BIT, CPUID::CPUID_SSE41_BIT, CPUID::CPUID_SSE42_BIT,
-                           CPUID::CPUID_AVX2_BIT, CPUID::CPUID_AVX512F_BIT, CPUID::CPUID_AVX512DQ_BIT,
-                           CPUID::CPUID_AVX512BW_BIT, CPUID::CPUID_AVX512_ICL_BIT})
+    for (const auto bit :
+         {CPUID::CPUID_SSE2_BIT, CPUID::CPUID_SSSE3_BIT, CPUID::CPUID_SSE41_BIT, CPUID::CPUID_SSE42_BIT, CPUID::CPUID_AVX2_BIT,
+          CPUID::CPUID_AVX512F_BIT, CPUID::CPUID_AVX512DQ_BIT, CPUID::CPUID_AVX512BW_BIT, CPUID::CPUID_AVX512_ICL_BIT})
         CPUID::clear_cpuid_bit(bit);
 }
 

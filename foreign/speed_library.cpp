@@ -14,8 +14,8 @@ class LibraryContestant : public Contestant {
 
     void pass(std::uint8_t *taken_key, const std::uint8_t *start, std::uint8_t *run, std::size_t length) const {
         const auto *const text = reinterpret_cast<const std::uint8_t *>(description.data());
-        const jinthoral_reply reply = jinthoral_pass(text, description.size(), taken_key, key.size(), opening, start,
-                                                     block_bytes, run, length);
+        const jinthoral_reply reply =
+            jinthoral_pass(text, description.size(), taken_key, key.size(), opening, start, block_bytes, run, length);
         if (reply.refusal != 0) throw std::runtime_error("the library refuses a run under " + description);
     }
 

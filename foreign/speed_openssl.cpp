@@ -3,6 +3,7 @@
 #define OPENSSL_SUPPRESS_DEPRECATED
 #include "contestants.hpp"
 
+#include <algorithm>
 #include <openssl/des.h>
 
 namespace foreign {

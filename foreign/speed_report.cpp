@@ -97,9 +97,10 @@ constexpr double most_key_ratio = 3;
 
 static void print_keys(const Contests &contests) {
     std::printf("\n### Keys\n\n");
-    std::printf("Nanoseconds for one key, of batches of %zu keys. A ratio is our time by that of the fastest peer; above %.0f it "
-                "is bold.\n\n",
-                keys_in_batch, most_key_ratio);
+    std::printf(
+        "Nanoseconds for one key, of batches of %zu keys. A ratio is our time by that of the fastest peer; above %.0f it "
+        "is bold.\n\n",
+        keys_in_batch, most_key_ratio);
     std::vector<std::string> titles = {"cipher", "way"};
     for (const auto entrant : key_setters) titles.push_back(entrant_names[static_cast<std::size_t>(entrant)]);
     titles.push_back("ours / fastest peer");
