@@ -49,11 +49,12 @@ build_library() {
     [ -f "$library" ] || { cat "$log" >&2; stop "the library was not proved and built"; }
 }
 
+# Where the linker puts the library's code changes how fast it is. It comes first, so that this depends little on the benchmark.
 compile() {
     rm -rf "$built/speed.o"
     mkdir -p "$built/speed.o"
     printf '%s\n' $sources | xargs -P "$(nproc)" -I{} g++ $flags -c foreign/{}.cpp -o "$built/speed.o/{}.o"
-    g++ "$built/speed.o"/*.o "$library" $libraries -o "$built/speed"
+    g++ -Wl,-u,jinthoral_pass "$library" "$built/speed.o"/*.o $libraries -o "$built/speed"
 }
 
 # The report in the document is what stands between its two marks.
