@@ -4,8 +4,8 @@
 #
 #     scripts/compare-speed.sh [--write]
 #
-# It proves and builds the library, and compiles the benchmark into target/foreign/. With --write the report also takes the place
-# of the one in docs/SPEED.md. Where LIBRARY is set, the library that it names is measured and none is built:
+# It proves and builds the library, and compiles the benchmark into target/foreign/. With --write the report also takes the
+# place of the one in docs/SPEED.md. Where LIBRARY is set, the library that it names is measured and none is built:
 #
 #     LIBRARY=some/libjinthoral.a scripts/compare-speed.sh
 #
@@ -49,12 +49,14 @@ build_library() {
     [ -f "$library" ] || { cat "$log" >&2; stop "the library was not proved and built"; }
 }
 
-# Where the linker puts the library's code changes how fast it is. It comes first, so that this depends little on the benchmark.
+# Where the linker puts the library's code, counted modulo 64, changes how fast it is. So it always begins at a multiple of 64.
 compile() {
     rm -rf "$built/speed.o"
     mkdir -p "$built/speed.o"
     printf '%s\n' $sources | xargs -P "$(nproc)" -I{} g++ $flags -c foreign/{}.cpp -o "$built/speed.o/{}.o"
-    g++ -Wl,-u,jinthoral_pass "$library" "$built/speed.o"/*.o $libraries -o "$built/speed"
+    ld -r -u jinthoral_pass "$library" -o "$built/speed.o/library.o"
+    objcopy --set-section-alignment .text=64 "$built/speed.o/library.o"
+    g++ "$built/speed.o"/*.o $libraries -o "$built/speed"
 }
 
 # The report in the document is what stands between its two marks.
