@@ -1,0 +1,79 @@
+#!/usr/bin/env bash
+# Measures how fast the C library of crates/jinthoral is beside OpenSSL, Crypto++ and Botan (foreign/speed.cpp), and prints a
+# report in Markdown.
+#
+#     scripts/compare-speed.sh [--write]
+#
+# It proves and builds the library, and compiles the benchmark into target/foreign/. With --write the report also takes the
+# place of the one in docs/SPEED.md. Where LIBRARY is set, the library that it names is measured and none is built:
+#
+#     LIBRARY=some/libjinthoral.a scripts/compare-speed.sh
+#
+# It wants the Debian packages below, and installs nothing.
+set -euo pipefail
+# A path in LIBRARY is that of the directory which the script was called from.
+library=${LIBRARY:+$(realpath -- "$LIBRARY")}
+cd "$(dirname "$0")/.."
+packages="g++ libssl-dev libcrypto++-dev libbotan-2-dev"
+headers="openssl/des.h cryptopp/cryptlib.h botan/block_cipher.h"
+sources="speed contest speed_report speed_library speed_openssl speed_cryptopp speed_botan"
+# These tell the versions of the packages.
+sources+=" ciphers openssl cryptopp botan second_reading"
+libraries="-lcrypto -lcryptopp -lbotan-2"
+crate=crates/jinthoral
+built=target/foreign
+document=docs/SPEED.md
+flags="-std=c++17 -Wall -Wextra -O2 -I/usr/include/botan-2 -I$crate/include"
+log=$(mktemp)
+report=$(mktemp)
+trap 'rm -f "$log" "$report"' EXIT
+
+stop() {
+    echo "compare-speed: $1" >&2
+    exit 2
+}
+
+demand_packages() {
+    local header
+    for header in $headers; do
+        echo "#include <$header>" | g++ $flags -fsyntax-only -x c++ - 2> "$log" ||
+            stop "$header is wanting. Install Debian's packages: apt-get install $packages"
+    done
+}
+
+build_library() {
+    library=$crate/out/libjinthoral.a
+    echo "proving and building the library .." >&2
+    rm -f "$library"
+    (cd "$crate" && rt lib) > "$log" 2>&1 < /dev/null || true
+    [ -f "$library" ] || { cat "$log" >&2; stop "the library was not proved and built"; }
+}
+
+# Where the linker puts the library's code, counted modulo 64, changes how fast it is. So it always begins at a multiple of 64.
+compile() {
+    rm -rf "$built/speed.o"
+    mkdir -p "$built/speed.o"
+    printf '%s\n' $sources | xargs -P "$(nproc)" -I{} g++ $flags -c foreign/{}.cpp -o "$built/speed.o/{}.o"
+    ld -r -u jinthoral_pass "$library" -o "$built/speed.o/library.o"
+    objcopy --set-section-alignment .text=64 "$built/speed.o/library.o"
+    g++ "$built/speed.o"/*.o $libraries -o "$built/speed"
+}
+
+# The report in the document is what stands between its two marks.
+write_report() {
+    grep -qx '<!-- measured -->' "$document" && grep -qx '<!-- end -->' "$document" || stop "$document has lost its marks"
+    sed -i -e "/^<!-- measured -->\$/r $report" -e '/^<!-- measured -->$/,/^<!-- end -->$/{/^<!--/!d}' "$document"
+}
+
+case "$*" in
+'' | --write) ;;
+*) stop "usage: scripts/compare-speed.sh [--write]" ;;
+esac
+demand_packages
+[ -n "$library" ] || build_library
+echo "compiling the benchmark .." >&2
+compile
+echo "measuring .." >&2
+"$built/speed" > "$report"
+cat "$report"
+[ "${1-}" != --write ] || write_report
