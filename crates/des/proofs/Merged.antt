@@ -137,10 +137,20 @@ spread_fold a [] = refl
 spread_fold a (x ∷ xs) = ap (λ s. fold bit_xor s (map spread xs)) (sym (spread_xor a x)) ∙ spread_fold (bit_xor a x) xs
 
 -- the spread shares of all boxes, the last one first
-pub shares_spread : (x : ℕ) → fold (λ out i. bit_xor out (spread (share x i))) (spread (share x 7)) (6 ∷ 5 ∷ 4 ∷ 3 ∷ 2 ∷ 1 ∷ 0 ∷ []) ≡ spread (shares x)
+shares_spread : (x : ℕ) → fold (λ out i. bit_xor out (spread (share x i))) (spread (share x 7)) (6 ∷ 5 ∷ 4 ∷ 3 ∷ 2 ∷ 1 ∷ 0 ∷ []) ≡ spread (shares x)
 shares_spread x =
     spread_fold (share x 7) (share x 6 ∷ share x 5 ∷ share x 4 ∷ share x 3 ∷ share x 2 ∷ share x 1 ∷ share x 0 ∷ [])
     ∙ ap spread (sym (from_the_back (share x 0) (share x 1) (share x 2) (share x 3) (share x 4) (share x 5) (share x 6) (share x 7)))
+
+-- the same, two boxes at a time
+pub pairs_spread : (x : ℕ) → fold (λ out i. bit_xor out (bit_xor (spread (share x (2 * i + 1))) (spread (share x (2 * i))))) (bit_xor (spread (share x 7)) (spread (share x 6))) (2 ∷ 1 ∷ 0 ∷ []) ≡ spread (shares x)
+pairs_spread x =
+    let s : ℕ → ℕ = λ i. spread (share x i) in
+    let more : (out i j : ℕ) → bit_xor out (bit_xor (s i) (s j)) ≡ bit_xor (bit_xor out (s i)) (s j) = λ out i j. sym (xor_assoc out (s i) (s j)) in
+    ap (λ out. bit_xor (bit_xor out (bit_xor (s 3) (s 2))) (bit_xor (s 1) (s 0))) (more (bit_xor (s 7) (s 6)) 5 4)
+    ∙ ap (λ out. bit_xor out (bit_xor (s 1) (s 0))) (more _ 3 2)
+    ∙ more _ 1 0
+    ∙ shares_spread x
 
 shares_fit : (x a : ℕ) (is : List ℕ) → a < 2 ^ 32 → fold (λ out i. bit_xor out (share x i)) a is < 2 ^ 32
 unfolding placed
