@@ -53,6 +53,7 @@ impl Layer {
 impl Cipher for Layer {
     ghost map = { layered };
 
+    // Inlined, so that each place of a pile has a choice of its own, which is always the same one.
     #[inline(always)]
     fn seal(&self, block: u64) -> u64 {
         match self {
@@ -66,7 +67,6 @@ impl Cipher for Layer {
         }
     }
 
-    #[inline(always)]
     fn seal_four(&self, blocks: Four<u64>) -> Four<u64> {
         match self {
             Layer::Empty => blocks,
