@@ -32,6 +32,8 @@ fn network(key: &[u8; 16], rounds: Rounds) -> IdeaNetwork
 }
 
 impl Idea {
+    // A call of its own in compiled code too: a caller would have to clear the room for all of this whenever it is entered.
+    #[inline(never)]
     #[tactic(auto, using(crate::proofs::Passes::sealed_new))]
     pub fn new(key: &[u8; 16], rounds: Rounds) -> Idea
         ensures words { result.network.key ≡ key_of rounds (key_words (from_be_bytes w128 key.now)) }
