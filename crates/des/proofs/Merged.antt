@@ -137,7 +137,7 @@ spread_fold a [] = refl
 spread_fold a (x ∷ xs) = ap (λ s. fold bit_xor s (map spread xs)) (sym (spread_xor a x)) ∙ spread_fold (bit_xor a x) xs
 
 -- the spread shares of all boxes, the last one first
-shares_spread : (x : ℕ) → fold (λ out i. bit_xor out (spread (share x i))) (spread (share x 7)) (6 ∷ 5 ∷ 4 ∷ 3 ∷ 2 ∷ 1 ∷ 0 ∷ []) ≡ spread (shares x)
+pub shares_spread : (x : ℕ) → fold (λ out i. bit_xor out (spread (share x i))) (spread (share x 7)) (6 ∷ 5 ∷ 4 ∷ 3 ∷ 2 ∷ 1 ∷ 0 ∷ []) ≡ spread (shares x)
 shares_spread x =
     spread_fold (share x 7) (share x 6 ∷ share x 5 ∷ share x 4 ∷ share x 3 ∷ share x 2 ∷ share x 1 ∷ share x 0 ∷ [])
     ∙ ap spread (sym (from_the_back (share x 0) (share x 1) (share x 2) (share x 3) (share x 4) (share x 5) (share x 6) (share x 7)))

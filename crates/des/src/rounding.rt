@@ -1,5 +1,6 @@
 // DES's round function, by one table for the boxes, P and the E of the next round.
 ghost use Rattle.std.specs.Prelude.{◌≡◌, ◌+◌, ◌*◌, ◌^◌, ◌%◌, ◌<◌, bit_xor};
+ghost use Rattle.networks.specs.Fours.{each};
 ghost use Rattle.selections.proofs.Picked.{picked_below};
 ghost use Rattle.des.specs.Tables.{permutation};
 ghost use Rattle.des.specs.Des.{group, f};
@@ -8,7 +9,7 @@ ghost use Rattle.des.specs.Spread.{Groups, byte_of, half_of, spread, word_of};
 
 use crate::spread::{GROUPS, Spread};
 use crate::tables::MERGED;
-use networks::RoundFunction;
+use networks::{Four, RoundFunction};
 
 // For each box and each six bits, what P makes of the box's four bits in their place, as the boxes of the next round take it.
 #[tactic(auto, unfolding(crate::specs::Merged::merged_numbers, crate::specs::Merged::placed, crate::specs::Boxes::boxed, crate::specs::Spread::spread))]
@@ -70,7 +71,7 @@ fn both(groups: u64, index: u32) -> u64
     share(groups, 2 * index + 1) | share(groups, 2 * index)
 }
 
-// What all boxes add, each spread.
+// What all boxes add, each spread, in few steps one after another.
 #[inline(always)]
 #[tactic(auto, using(crate::proofs::Merged::pairs_spread))]
 fn added(groups: u64) -> u64
@@ -80,15 +81,31 @@ fn added(groups: u64) -> u64
     both(groups, 3) ^ both(groups, 2) ^ both(groups, 1) ^ both(groups, 0)
 }
 
-// The same, and that it has the half.
-#[tactic(auto, using(crate::proofs::Merged::shares_back))]
+// The same in few steps altogether.
 #[inline(always)]
-fn shares(groups: u64) -> u64
+#[tactic(auto, using(crate::proofs::Merged::shares_spread))]
+fn added_in_turn(groups: u64) -> u64
     requires { Groups groups }
-    ensures value { result ≡ spread (shares (word_of groups)) }
-    ensures half { half_of result ≡ shares (word_of groups) }
+    ensures { result ≡ spread (shares (word_of groups)) }
 {
-    added(groups)
+    share(groups, 7)
+        ^ share(groups, 6)
+        ^ share(groups, 5)
+        ^ share(groups, 4)
+        ^ share(groups, 3)
+        ^ share(groups, 2)
+        ^ share(groups, 1)
+        ^ share(groups, 0)
+}
+
+// The half of what all boxes add.
+#[inline(always)]
+#[tactic(auto, using(crate::proofs::Merged::shares_back))]
+fn half_added(added: u64, groups: u64) -> Spread
+    requires { added ≡ spread (shares (word_of groups)) }
+    ensures { result ≡ shares (word_of groups) }
+{
+    Spread::from_groups(added)
 }
 
 // What the boxes take: the groups of a half, xored with those of a round word.
@@ -98,6 +115,16 @@ fn mixed(half: Spread, kept: u64) -> u64
     ensures word { word_of result ≡ mixed half (word_of kept) }
 {
     half.groups() ^ (kept & GROUPS)
+}
+
+// What is joined to one of several halves that are worked on side by side: while one waits, another goes on.
+#[inline(always)]
+#[tactic(auto, using(crate::proofs::Merged::f_shares))]
+fn mix_in_turn(half: Spread, kept: u64) -> Spread
+    ensures { result ≡ f half (word_of kept) }
+{
+    let groups = mixed(half, kept);
+    half_added(added_in_turn(groups), groups)
 }
 
 #[derive(Clone, Copy)]
@@ -112,9 +139,22 @@ impl RoundFunction for DesRound {
 
     ghost within = { λ _ half word. unfold f in picked_below 32 _ permutation };
 
-    #[tactic(auto, using(crate::proofs::Merged::f_shares))]
     #[inline(always)]
+    #[tactic(auto, using(crate::proofs::Merged::f_shares))]
     fn mix(&self, half: Spread, kept: u64) -> Spread {
-        Spread::from_groups(shares(mixed(half, kept)))
+        let groups = mixed(half, kept);
+        half_added(added(groups), groups)
+    }
+
+    #[inline(always)]
+    fn mix_four(&self, halves: Four<Spread>, kept: u64) -> Four<Spread>
+        ensures { result ≡ each (λ half. f half (word_of kept)) halves }
+    {
+        Four {
+            first: mix_in_turn(halves.first, kept),
+            second: mix_in_turn(halves.second, kept),
+            third: mix_in_turn(halves.third, kept),
+            fourth: mix_in_turn(halves.fourth, kept),
+        }
     }
 }

@@ -1,6 +1,6 @@
 // Feistel networks over any group and round function.
 ghost use Rattle.std.specs.Prelude.{◌≡◌, false};
-ghost use Rattle.networks.specs.Fours.{each, rounds_abreast};
+ghost use Rattle.networks.specs.Fours.{each, joined, rounds_abreast};
 ghost use Rattle.networks.specs.Halves.{Words};
 ghost use Rattle.networks.specs.Inverses.{Inverses};
 ghost use Rattle.networks.specs.Networks.{network};
@@ -55,10 +55,7 @@ impl<G: Group, F: RoundFunction<Half = G::Word>, const N: usize> Feistel<G, F, N
         requires { inverted ≡ self.now.inverted }
         ensures { result ≡ round (network G.Group F.RoundFunction self.now) (F.RoundFunction.word_of kept) halves }
     {
-        Halves {
-            left: halves.right,
-            right: G::join(halves.left, self.applied(inverted, halves.right, kept)),
-        }
+        Self::joined(halves, self.applied(inverted, halves.right, kept))
     }
 
     fn unround(&self, kept: u64, halves: Halves<G::Word>) -> Halves<G::Word>
@@ -100,6 +97,47 @@ impl<G: Group, F: RoundFunction<Half = G::Word>, const N: usize> Feistel<G, F, N
     }
 
     #[inline(always)]
+    fn applied_four(&self, inverted: bool, halves: Four<G::Word>, kept: u64) -> Four<G::Word>
+        requires { inverted ≡ self.now.inverted }
+        ensures { result ≡ each (λ half. applied (network G.Group F.RoundFunction self.now) half (F.RoundFunction.word_of kept)) halves }
+    {
+        let values = self.function.mix_four(halves, kept);
+        if inverted {
+            Four {
+                first: G::inverse(values.first),
+                second: G::inverse(values.second),
+                third: G::inverse(values.third),
+                fourth: G::inverse(values.fourth),
+            }
+        } else {
+            values
+        }
+    }
+
+    #[inline(always)]
+    fn rights(halves: Four<Halves<G::Word>>) -> Four<G::Word>
+        ensures { result ≡ each (λ h. h.right) halves }
+    {
+        Four {
+            first: halves.first.right,
+            second: halves.second.right,
+            third: halves.third.right,
+            fourth: halves.fourth.right,
+        }
+    }
+
+    // The halves after a round, where what it joins has been found.
+    #[inline(always)]
+    fn joined(halves: Halves<G::Word>, value: G::Word) -> Halves<G::Word>
+        ensures { result ≡ joined G.Group.joined halves value }
+    {
+        Halves {
+            left: halves.right,
+            right: G::join(halves.left, value),
+        }
+    }
+
+    #[inline(always)]
     fn round_four(
         &self,
         inverted: bool,
@@ -109,11 +147,12 @@ impl<G: Group, F: RoundFunction<Half = G::Word>, const N: usize> Feistel<G, F, N
         requires { inverted ≡ self.now.inverted }
         ensures { result ≡ each (round (network G.Group F.RoundFunction self.now) (F.RoundFunction.word_of kept)) halves }
     {
+        let values = self.applied_four(inverted, Self::rights(halves), kept);
         Four {
-            first: self.round(inverted, kept, halves.first),
-            second: self.round(inverted, kept, halves.second),
-            third: self.round(inverted, kept, halves.third),
-            fourth: self.round(inverted, kept, halves.fourth),
+            first: Self::joined(halves.first, values.first),
+            second: Self::joined(halves.second, values.second),
+            third: Self::joined(halves.third, values.third),
+            fourth: Self::joined(halves.fourth, values.fourth),
         }
     }
 
