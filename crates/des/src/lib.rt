@@ -3,9 +3,9 @@
 // Promises: the map of `Des::new` is DES as FIPS 46-3 has it, for every key of eight bytes; its round words are the
 // standard's, each eighth bit of the key is ignored, and deciphering is the inverse of enciphering. `ede2` and `ede3` are
 // triple DES under two and three keys. Under opposite keys, opposite texts are sealed to opposite blocks (`seal_both`). An
-// S-box gives four bits, and its row holds each number of four bits once; the cipher itself looks up SP-boxes. No call
-// refuses. DES is built as a permutation, a Feistel network over xor and the inverse permutation, so turning and undoing
-// need no proof of their own.
+// S-box gives four bits, and its row holds each number of four bits once; the cipher itself looks up one table that merges the
+// boxes with P and E. No call refuses. DES is built as a permutation, a Feistel network over xor and the inverse permutation,
+// and triple DES as three such networks between the permutations, so turning and undoing need no proof of their own.
 #![tactic(auto)]
 
 mod boxes;

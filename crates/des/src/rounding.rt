@@ -1,6 +1,5 @@
 // DES's round function, by one table for the boxes, P and the E of the next round.
 ghost use Rattle.std.specs.Prelude.{◌≡◌, ◌+◌, ◌*◌, ◌^◌, ◌%◌, ◌<◌, bit_xor};
-ghost use Rattle.networks.specs.Fours.{each};
 ghost use Rattle.selections.proofs.Picked.{picked_below};
 ghost use Rattle.des.specs.Tables.{permutation};
 ghost use Rattle.des.specs.Des.{group, f};
@@ -9,7 +8,7 @@ ghost use Rattle.des.specs.Spread.{Groups, byte_of, half_of, spread, word_of};
 
 use crate::spread::{GROUPS, Spread};
 use crate::tables::MERGED;
-use networks::{Four, RoundFunction};
+use networks::RoundFunction;
 
 // For each box and each six bits, what P makes of the box's four bits in their place, as the boxes of the next round take it.
 #[tactic(auto, unfolding(crate::specs::Merged::merged_numbers, crate::specs::Merged::placed, crate::specs::Boxes::boxed, crate::specs::Spread::spread))]
@@ -117,16 +116,6 @@ fn mixed(half: Spread, kept: u64) -> u64
     half.groups() ^ (kept & GROUPS)
 }
 
-// What is joined to one of several halves that are worked on side by side: while one waits, another goes on.
-#[inline(always)]
-#[tactic(auto, using(crate::proofs::Merged::f_shares))]
-fn mix_in_turn(half: Spread, kept: u64) -> Spread
-    ensures { result ≡ f half (word_of kept) }
-{
-    let groups = mixed(half, kept);
-    half_added(added_in_turn(groups), groups)
-}
-
 #[derive(Clone, Copy)]
 pub(crate) struct DesRound;
 
@@ -146,15 +135,11 @@ impl RoundFunction for DesRound {
         half_added(added(groups), groups)
     }
 
+    // While one half waits for its next step, another goes on: then fewer steps altogether are quicker than fewer in a row.
     #[inline(always)]
-    fn mix_four(&self, halves: Four<Spread>, kept: u64) -> Four<Spread>
-        ensures { result ≡ each (λ half. f half (word_of kept)) halves }
-    {
-        Four {
-            first: mix_in_turn(halves.first, kept),
-            second: mix_in_turn(halves.second, kept),
-            third: mix_in_turn(halves.third, kept),
-            fourth: mix_in_turn(halves.fourth, kept),
-        }
+    #[tactic(auto, using(crate::proofs::Merged::f_shares))]
+    fn mix_beside(&self, half: Spread, kept: u64) -> Spread {
+        let groups = mixed(half, kept);
+        half_added(added_in_turn(groups), groups)
     }
 }

@@ -9,10 +9,6 @@ use Rattle.networks.specs.Rounds.{Network, round}
 abbrev pub each : {A B : Type 0} → (A → B) → Four A → Four B
 each f xs = record { first = f xs.first; second = f xs.second; third = f xs.third; fourth = f xs.fourth }
 
--- the halves after a round that joins a value
-abbrev pub joined : {W : Type 0} → (W → W → W) → Halves W → W → Halves W
-joined join h value = record { left = h.right; right = join h.left value }
-
 -- the rounds in order, each of them of all four pairs of halves before the next
 abbrev pub rounds_abreast : {W : Type 0} → Network W → List ℕ → Four (Halves W) → Four (Halves W)
 rounds_abreast N ks four = fold (λ s k. each (round N k) s) four ks

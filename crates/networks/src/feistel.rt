@@ -1,6 +1,6 @@
 // Feistel networks over any group and round function.
-ghost use Rattle.std.specs.Prelude.{◌≡◌, false};
-ghost use Rattle.networks.specs.Fours.{each, joined, rounds_abreast};
+ghost use Rattle.std.specs.Prelude.{◌≡◌, false, if◌then◌else◌};
+ghost use Rattle.networks.specs.Fours.{each, rounds_abreast};
 ghost use Rattle.networks.specs.Halves.{Words};
 ghost use Rattle.networks.specs.Inverses.{Inverses};
 ghost use Rattle.networks.specs.Networks.{network};
@@ -39,15 +39,29 @@ impl<G: Group, F: RoundFunction<Half = G::Word>, const N: usize> Feistel<G, F, N
         }
     }
 
-    // The round function, or its inverse in the group where the network is turned. Whether it is turned is a parameter here
-    // and below, so that it is asked once for a block and not once a round.
+    // A value of the round function, or its inverse in the group where the network is turned. Whether it is turned is a
+    // parameter here and below, so that it is asked once for a block and not once a round.
+    #[inline(always)]
+    fn faced(inverted: bool, value: G::Word) -> G::Word
+        ensures { result ≡ (if inverted then G.Group.inverted value else value) }
+    {
+        if inverted { G::inverse(value) } else { value }
+    }
+
     #[inline(always)]
     fn applied(&self, inverted: bool, half: G::Word, kept: u64) -> G::Word
         requires { inverted ≡ self.now.inverted }
         ensures { result ≡ applied (network G.Group F.RoundFunction self.now) half (F.RoundFunction.word_of kept) }
     {
-        let value = self.function.mix(half, kept);
-        if inverted { G::inverse(value) } else { value }
+        Self::faced(inverted, self.function.mix(half, kept))
+    }
+
+    #[inline(always)]
+    fn applied_beside(&self, inverted: bool, half: G::Word, kept: u64) -> G::Word
+        requires { inverted ≡ self.now.inverted }
+        ensures { result ≡ applied (network G.Group F.RoundFunction self.now) half (F.RoundFunction.word_of kept) }
+    {
+        Self::faced(inverted, self.function.mix_beside(half, kept))
     }
 
     #[inline(always)]
@@ -55,7 +69,25 @@ impl<G: Group, F: RoundFunction<Half = G::Word>, const N: usize> Feistel<G, F, N
         requires { inverted ≡ self.now.inverted }
         ensures { result ≡ round (network G.Group F.RoundFunction self.now) (F.RoundFunction.word_of kept) halves }
     {
-        Self::joined(halves, self.applied(inverted, halves.right, kept))
+        Halves {
+            left: halves.right,
+            right: G::join(halves.left, self.applied(inverted, halves.right, kept)),
+        }
+    }
+
+    // A round of one of several pairs of halves.
+    #[inline(always)]
+    fn round_beside(&self, inverted: bool, kept: u64, halves: Halves<G::Word>) -> Halves<G::Word>
+        requires { inverted ≡ self.now.inverted }
+        ensures { result ≡ round (network G.Group F.RoundFunction self.now) (F.RoundFunction.word_of kept) halves }
+    {
+        Halves {
+            left: halves.right,
+            right: G::join(
+                halves.left,
+                self.applied_beside(inverted, halves.right, kept),
+            ),
+        }
     }
 
     fn unround(&self, kept: u64, halves: Halves<G::Word>) -> Halves<G::Word>
@@ -97,47 +129,6 @@ impl<G: Group, F: RoundFunction<Half = G::Word>, const N: usize> Feistel<G, F, N
     }
 
     #[inline(always)]
-    fn applied_four(&self, inverted: bool, halves: Four<G::Word>, kept: u64) -> Four<G::Word>
-        requires { inverted ≡ self.now.inverted }
-        ensures { result ≡ each (λ half. applied (network G.Group F.RoundFunction self.now) half (F.RoundFunction.word_of kept)) halves }
-    {
-        let values = self.function.mix_four(halves, kept);
-        if inverted {
-            Four {
-                first: G::inverse(values.first),
-                second: G::inverse(values.second),
-                third: G::inverse(values.third),
-                fourth: G::inverse(values.fourth),
-            }
-        } else {
-            values
-        }
-    }
-
-    #[inline(always)]
-    fn rights(halves: Four<Halves<G::Word>>) -> Four<G::Word>
-        ensures { result ≡ each (λ h. h.right) halves }
-    {
-        Four {
-            first: halves.first.right,
-            second: halves.second.right,
-            third: halves.third.right,
-            fourth: halves.fourth.right,
-        }
-    }
-
-    // The halves after a round, where what it joins has been found.
-    #[inline(always)]
-    fn joined(halves: Halves<G::Word>, value: G::Word) -> Halves<G::Word>
-        ensures { result ≡ joined G.Group.joined halves value }
-    {
-        Halves {
-            left: halves.right,
-            right: G::join(halves.left, value),
-        }
-    }
-
-    #[inline(always)]
     fn round_four(
         &self,
         inverted: bool,
@@ -147,12 +138,11 @@ impl<G: Group, F: RoundFunction<Half = G::Word>, const N: usize> Feistel<G, F, N
         requires { inverted ≡ self.now.inverted }
         ensures { result ≡ each (round (network G.Group F.RoundFunction self.now) (F.RoundFunction.word_of kept)) halves }
     {
-        let values = self.applied_four(inverted, Self::rights(halves), kept);
         Four {
-            first: Self::joined(halves.first, values.first),
-            second: Self::joined(halves.second, values.second),
-            third: Self::joined(halves.third, values.third),
-            fourth: Self::joined(halves.fourth, values.fourth),
+            first: self.round_beside(inverted, kept, halves.first),
+            second: self.round_beside(inverted, kept, halves.second),
+            third: self.round_beside(inverted, kept, halves.third),
+            fourth: self.round_beside(inverted, kept, halves.fourth),
         }
     }
 

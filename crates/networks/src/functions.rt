@@ -1,8 +1,6 @@
 // Round functions: what a Feistel network joins to a half.
 ghost use Rattle.std.specs.Prelude.{◌≡◌, ℕ};
-ghost use Rattle.networks.specs.Fours.{each};
 
-use crate::fours::Four;
 use groups::Word;
 
 // One fixed function of a half and a 64-bit round word. It may hold a key; it owes nothing but words.
@@ -17,17 +15,12 @@ pub trait RoundFunction {
     fn mix(&self, half: Self::Half, kept: u64) -> Self::Half
         ensures { result ≡ value self.now half (word_of kept) };
 
-    // The same of four halves. What is quickest for one half may not be for four that are worked on side by side.
+    // The same, by what is quickest for one of several halves that are worked on side by side.
     #[inline(always)]
-    fn mix_four(&self, halves: Four<Self::Half>, kept: u64) -> Four<Self::Half>
-        ensures { result ≡ each (λ half. value self.now half (word_of kept)) halves }
+    fn mix_beside(&self, half: Self::Half, kept: u64) -> Self::Half
+        ensures { result ≡ value self.now half (word_of kept) }
     {
-        Four {
-            first: self.mix(halves.first, kept),
-            second: self.mix(halves.second, kept),
-            third: self.mix(halves.third, kept),
-            fourth: self.mix(halves.fourth, kept),
-        }
+        self.mix(half, kept)
     }
 
     // the values are words, which says no more than their type
