@@ -42,10 +42,17 @@ Bytes Contest::chained(Contestant &contestant) const {
     return run;
 }
 
+Bytes Contest::passed_under_each(Contestant &contestant) const {
+    Bytes keys = batch, block = start;
+    contestant.prepare();
+    contestant.pass_under_each(keys, block.data());
+    return block;
+}
+
 void Contest::demand_agreement() const {
-    const Bytes ours = chained(*places[0].contestant);
+    const Bytes run = chained(*places[0].contestant), block = passed_under_each(*places[0].contestant);
     for (std::size_t i = 1; i < entrants; i++)
-        if (places[i].contestant && chained(*places[i].contestant) != ours)
+        if (const auto &peer = places[i].contestant; peer && (chained(*peer) != run || passed_under_each(*peer) != block))
             throw std::runtime_error(std::string(entrant_names[i]) + " disagrees with ours about " +
                                      facts_of(task.family).name);
 }
@@ -65,6 +72,9 @@ void Contest::take_turn(Place &place) {
     contestant.prepare();
     time(place.chain, plain, [&](Bytes &run) { contestant.chain(start.data(), run.data(), run.size()); });
     time(place.keys, batch, [&](Bytes &keys) { contestant.set_keys(keys); });
+    Bytes block = start;
+    time(place.firsts, batch, [&](Bytes &keys) { contestant.pass_under_each(keys, block.data()); });
+    time(place.again, block, [&](Bytes &again) { contestant.pass_again(again.data(), times_again); });
 }
 
 // So often that the clock's own time does not count.
@@ -93,10 +103,21 @@ std::optional<double> Contest::told(Entrant entrant, const Least Place::*work) c
     return (place.*work).nanoseconds();
 }
 
-std::optional<double> Contest::key_time(Entrant entrant) const {
-    const auto of_batch = told(entrant, &Place::keys);
-    if (!of_batch) return std::nullopt;
-    return *of_batch / keys_in_batch;
+static std::optional<double> part(const std::optional<double> &whole, std::size_t parts) {
+    if (!whole) return std::nullopt;
+    return *whole / static_cast<double>(parts);
+}
+
+std::optional<double> Contest::key_time(Entrant entrant) const { return part(told(entrant, &Place::keys), keys_in_batch); }
+
+std::optional<double> Contest::first_block_time(Entrant entrant) const {
+    return part(told(entrant, &Place::firsts), keys_in_batch);
+}
+
+std::optional<double> Contest::key_alone_time(Entrant entrant) const {
+    const auto first = first_block_time(entrant), another = part(told(entrant, &Place::again), times_again);
+    if (!first || !another) return std::nullopt;
+    return *first - *another;
 }
 
 double Contest::short_run_time(std::size_t which) const {

@@ -3,7 +3,13 @@
 
 #include "ciphers.hpp"
 
+#include <algorithm>
+
 namespace foreign {
+
+// Makes a part of a block the beginning of a key. So a processor cannot set up the key before the block is there. It is four
+// bytes, as the ciphers write them, so that no write waits for two others.
+inline void tie(std::uint8_t *key, const std::uint8_t *block) { std::copy_n(block, 4, key); }
 
 class Contestant {
 public:
@@ -17,6 +23,13 @@ public:
 
     // Sets up every key of a batch, which is the keys' bytes without gaps, and may change these bytes.
     virtual void set_keys(Bytes &batch) = 0;
+
+    // Passes a block in place under each key of a batch in turn, and sets that key up for it. Each key is tied to the block as it
+    // is then.
+    virtual void pass_under_each(Bytes &batch, std::uint8_t *block) = 0;
+
+    // Passes a block in place so many times under one key, which was set up before.
+    virtual void pass_again(std::uint8_t *block, std::size_t times) = 0;
 };
 
 // Botan stands here twice. On processors with SSE2 its IDEA takes eight blocks at once where they do not wait for each other,

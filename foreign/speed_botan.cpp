@@ -23,15 +23,23 @@ static void let_use_simd(bool allowed) {
 
 class BotanContestant : public Contestant {
     const std::size_t key_bytes;
+    const Botan::Cipher_Dir direction;
     const bool with_simd;
     const std::unique_ptr<Botan::BlockCipher> cipher;
     const std::unique_ptr<Botan::Cipher_Mode> chained;
 
+    void pass(std::uint8_t *block) const {
+        if (direction == Botan::ENCRYPTION) cipher->encrypt(block);
+        else cipher->decrypt(block);
+    }
+
 public:
     BotanContestant(const std::string &name, Botan::Cipher_Dir direction, const Bytes &key, bool with_simd)
-        : key_bytes(key.size()), with_simd(with_simd), cipher(Botan::BlockCipher::create_or_throw(name)),
+        : key_bytes(key.size()), direction(direction), with_simd(with_simd),
+          cipher(Botan::BlockCipher::create_or_throw(name)),
           chained(Botan::Cipher_Mode::create_or_throw(name + "/CBC/NoPadding", direction)) {
         chained->set_key(key.data(), key.size());
+        cipher->set_key(key.data(), key.size());
         prepare();
     }
 
@@ -48,6 +56,18 @@ public:
 
     void set_keys(Bytes &batch) override {
         for (std::size_t i = 0; i < batch.size(); i += key_bytes) cipher->set_key(&batch[i], key_bytes);
+    }
+
+    void pass_under_each(Bytes &batch, std::uint8_t *block) override {
+        for (std::size_t i = 0; i < batch.size(); i += key_bytes) {
+            tie(&batch[i], block);
+            cipher->set_key(&batch[i], key_bytes);
+            pass(block);
+        }
+    }
+
+    void pass_again(std::uint8_t *block, std::size_t times) override {
+        for (std::size_t i = 0; i < times; i++) pass(block);
     }
 };
 

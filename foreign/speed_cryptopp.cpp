@@ -17,6 +17,7 @@ public:
     explicit CryptoPpContestant(const Bytes &key) : key_bytes(key.size()) {
         const std::uint8_t any_start[block_bytes] = {};
         chained.SetKeyWithIV(key.data(), key.size(), any_start);
+        cipher.SetKey(key.data(), key.size());
     }
 
     void chain(const std::uint8_t *start, std::uint8_t *run, std::size_t length) override {
@@ -26,6 +27,18 @@ public:
 
     void set_keys(Bytes &batch) override {
         for (std::size_t i = 0; i < batch.size(); i += key_bytes) cipher.SetKey(&batch[i], key_bytes);
+    }
+
+    void pass_under_each(Bytes &batch, std::uint8_t *block) override {
+        for (std::size_t i = 0; i < batch.size(); i += key_bytes) {
+            tie(&batch[i], block);
+            cipher.SetKey(&batch[i], key_bytes);
+            cipher.ProcessBlock(block);
+        }
+    }
+
+    void pass_again(std::uint8_t *block, std::size_t times) override {
+        for (std::size_t i = 0; i < times; i++) cipher.ProcessBlock(block);
     }
 };
 

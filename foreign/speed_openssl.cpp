@@ -3,7 +3,6 @@
 #define OPENSSL_SUPPRESS_DEPRECATED
 #include "contestants.hpp"
 
-#include <algorithm>
 #include <openssl/des.h>
 
 namespace foreign {
@@ -25,6 +24,13 @@ template <std::size_t stages> class OpenSslContestant : public Contestant {
     const int direction;
     Schedules lasting, passing;
 
+    void pass(Schedules &under, std::uint8_t *block) const {
+        auto *const text = reinterpret_cast<DES_cblock *>(block);
+        auto &of = under.of;
+        if constexpr (stages == 1) DES_ecb_encrypt(text, text, &of[0], direction);
+        else DES_ecb3_encrypt(text, text, &of[0], &of[1], &of[2], direction);
+    }
+
 public:
     OpenSslContestant(Way way, const Bytes &key) : direction(way == Way::Sealing ? DES_ENCRYPT : DES_DECRYPT) {
         lasting.set(key.data());
@@ -40,6 +46,18 @@ public:
 
     void set_keys(Bytes &batch) override {
         for (std::size_t i = 0; i < batch.size(); i += stages * DES_KEY_SZ) passing.set(&batch[i]);
+    }
+
+    void pass_under_each(Bytes &batch, std::uint8_t *block) override {
+        for (std::size_t i = 0; i < batch.size(); i += stages * DES_KEY_SZ) {
+            tie(&batch[i], block);
+            passing.set(&batch[i]);
+            pass(passing, block);
+        }
+    }
+
+    void pass_again(std::uint8_t *block, std::size_t times) override {
+        for (std::size_t i = 0; i < times; i++) pass(lasting, block);
     }
 };
 

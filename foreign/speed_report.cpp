@@ -95,24 +95,36 @@ static void print_chains(const Contests &contests) {
 constexpr Entrant key_setters[] = {Entrant::Library, Entrant::OpenSsl, Entrant::CryptoPp, Entrant::Botan};
 constexpr double most_key_ratio = 3;
 
-static void print_keys(const Contests &contests) {
-    std::printf("\n### Keys\n\n");
-    std::printf(
-        "Nanoseconds for one key, of batches of %zu keys. A ratio is our time by that of the fastest peer; above %.0f it "
-        "is bold.\n\n",
-        keys_in_batch, most_key_ratio);
+using KeyTime = std::optional<double> (Contest::*)(Entrant) const;
+
+static void print_key_times(const Contests &contests, KeyTime key_time) {
     std::vector<std::string> titles = {"cipher", "way"};
     for (const auto entrant : key_setters) titles.push_back(entrant_names[static_cast<std::size_t>(entrant)]);
     titles.push_back("ours / fastest peer");
     print_head(titles);
     for (const auto &contest : contests) {
-        const auto time = [&](Entrant entrant) { return contest.key_time(entrant); };
+        const auto time = [&](Entrant entrant) { return (contest.*key_time)(entrant); };
         auto cells = first_cells(contest.task);
         for (const auto entrant : key_setters) cells.push_back(cell(time(entrant), 0));
         const double ratio = *time(Entrant::Library) / fastest_peer(time, Entrant::BotanWithoutSimd);
         cells.push_back(bold_if(ratio > most_key_ratio, number(ratio, 2)));
         print_row(cells);
     }
+}
+
+static void print_keys(const Contests &contests) {
+    std::printf("\n### Keys, in a whole call\n\n");
+    std::printf("Nanoseconds for one key, of batches of %zu keys. Ours is a whole call with an empty run; a peer sets up a key "
+                "and no more. A ratio is our time by that of the fastest peer; above %.0f it is bold.\n\n",
+                keys_in_batch, most_key_ratio);
+    print_key_times(contests, &Contest::key_time);
+    std::printf("\n### A new key and one block\n\n");
+    std::printf("Nanoseconds for setting up a key and passing one block under it, of batches of %zu keys. All do the same here.\n\n",
+                keys_in_batch);
+    print_key_times(contests, &Contest::first_block_time);
+    std::printf("\n### Keys alone\n\n");
+    std::printf("The same nanoseconds, less those for another block under the same key.\n\n");
+    print_key_times(contests, &Contest::key_alone_time);
 }
 
 static void print_short_runs(const Contests &contests) {

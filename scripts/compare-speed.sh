@@ -1,18 +1,20 @@
 #!/usr/bin/env bash
-# Measures how fast the C library of crates/jinthoral is beside OpenSSL, Crypto++ and Botan (foreign/speed.cpp), and prints a
-# report in Markdown.
+# Measures how fast the C libraries of crates/jinthoral and crates/one_block are beside OpenSSL, Crypto++ and Botan
+# (foreign/speed.cpp), and prints a report in Markdown.
 #
 #     scripts/compare-speed.sh [--write]
 #
-# It proves and builds the library, and compiles the benchmark into target/foreign/. With --write the report also takes the
-# place of the one in docs/SPEED.md. Where LIBRARY is set, the library that it names is measured and none is built:
+# It proves and builds both libraries, and compiles the benchmark into target/foreign/. With --write the report also takes the
+# place of the one in docs/SPEED.md. Where LIBRARY is set, the library that it names is measured in place of jinthoral's, and
+# where KEYS_LIBRARY is, in place of one_block's; what is named is not built:
 #
-#     LIBRARY=some/libjinthoral.a scripts/compare-speed.sh
+#     LIBRARY=some/libjinthoral.a KEYS_LIBRARY=some/libone_block.a scripts/compare-speed.sh
 #
 # It wants the Debian packages below, and installs nothing.
 set -euo pipefail
-# A path in LIBRARY is that of the directory which the script was called from.
+# These paths are those of the directory which the script was called from.
 library=${LIBRARY:+$(realpath -- "$LIBRARY")}
+keys_library=${KEYS_LIBRARY:+$(realpath -- "$KEYS_LIBRARY")}
 cd "$(dirname "$0")/.."
 packages="g++ libssl-dev libcrypto++-dev libbotan-2-dev"
 headers="openssl/des.h cryptopp/cryptlib.h botan/block_cipher.h"
@@ -20,10 +22,9 @@ sources="speed contest speed_report speed_library speed_openssl speed_cryptopp s
 # These tell the versions of the packages.
 sources+=" ciphers openssl cryptopp botan second_reading"
 libraries="-lcrypto -lcryptopp -lbotan-2"
-crate=crates/jinthoral
 built=target/foreign
 document=docs/SPEED.md
-flags="-std=c++17 -Wall -Wextra -O2 -I/usr/include/botan-2 -I$crate/include"
+flags="-std=c++17 -Wall -Wextra -O2 -I/usr/include/botan-2 -Icrates/jinthoral/include -Icrates/one_block/include"
 log=$(mktemp)
 report=$(mktemp)
 trap 'rm -f "$log" "$report"' EXIT
@@ -41,21 +42,29 @@ demand_packages() {
     done
 }
 
-build_library() {
-    library=$crate/out/libjinthoral.a
-    echo "proving and building the library .." >&2
-    rm -f "$library"
-    (cd "$crate" && rt lib) > "$log" 2>&1 < /dev/null || true
-    [ -f "$library" ] || { cat "$log" >&2; stop "the library was not proved and built"; }
+# build CRATE: proves and builds its static library.
+build() {
+    local made=crates/$1/out/lib$1.a
+    echo "proving and building $1 .." >&2
+    rm -f "$made"
+    (cd "crates/$1" && rt lib) > "$log" 2>&1 < /dev/null || true
+    [ -f "$made" ] || { cat "$log" >&2; stop "$1 was not proved and built"; }
 }
 
-# Where the linker puts the library's code, counted modulo 64, changes how fast it is. So it always begins at a multiple of 64.
+# take LIBRARY CALL: makes an object of the library with the call. Where the linker puts the library's code, counted modulo 64,
+# changes how fast it is. So it always begins at a multiple of 64.
+take() {
+    local object=$built/speed.o/$2.o
+    ld -r -u "$2" "$1" -o "$object"
+    objcopy --set-section-alignment .text=64 "$object"
+}
+
 compile() {
     rm -rf "$built/speed.o"
     mkdir -p "$built/speed.o"
     printf '%s\n' $sources | xargs -P "$(nproc)" -I{} g++ $flags -c foreign/{}.cpp -o "$built/speed.o/{}.o"
-    ld -r -u jinthoral_pass "$library" -o "$built/speed.o/library.o"
-    objcopy --set-section-alignment .text=64 "$built/speed.o/library.o"
+    take "$library" jinthoral_pass
+    take "$keys_library" one_block_des
     g++ "$built/speed.o"/*.o $libraries -o "$built/speed"
 }
 
@@ -70,7 +79,8 @@ case "$*" in
 *) stop "usage: scripts/compare-speed.sh [--write]" ;;
 esac
 demand_packages
-[ -n "$library" ] || build_library
+[ -n "$library" ] || { build jinthoral; library=crates/jinthoral/out/libjinthoral.a; }
+[ -n "$keys_library" ] || { build one_block; keys_library=crates/one_block/out/libone_block.a; }
 echo "compiling the benchmark .." >&2
 compile
 echo "measuring .." >&2
