@@ -8,10 +8,10 @@
 # every answer that is spoiled on purpose, and tries some cases under sanitizers; then it compares, with the arguments. Its last
 # line is 'N cases, N agree'.
 #
-# It wants the Debian packages below, and installs nothing.
+# It wants the Debian packages that scripts/peers.sh names, and installs nothing.
 set -euo pipefail
 cd "$(dirname "$0")/.."
-packages="g++ libssl-dev libcrypto++-dev libbotan-2-dev"
+script=compare-foreign
 headers="openssl/provider.h cryptopp/cryptlib.h botan/block_cipher.h"
 sources="compare tally library cases agreement reference ciphers openssl cryptopp botan second_reading"
 libraries="-lcrypto -lcryptopp -lbotan-2"
@@ -21,26 +21,7 @@ built=target/foreign
 log=$(mktemp)
 trap 'rm -f "$log"' EXIT
 flags="-std=c++17 -Wall -Wextra -I/usr/include/botan-2 -I$crate/include"
-
-stop() {
-    echo "compare-foreign: $1" >&2
-    exit 2
-}
-
-demand_packages() {
-    local header
-    for header in $headers; do
-        echo "#include <$header>" | g++ $flags -fsyntax-only -x c++ - 2> "$log" ||
-            stop "$header is wanting. Install Debian's packages: apt-get install $packages"
-    done
-}
-
-build_library() {
-    echo "proving and building the library .."
-    rm -f "$library"
-    (cd "$crate" && rt lib) > "$log" 2>&1 < /dev/null || true
-    [ -f "$library" ] || { cat "$log" >&2; stop "the library was not proved and built"; }
-}
+. scripts/peers.sh
 
 # compile NAME FLAG..: the comparison as target/foreign/NAME.
 compile() {
@@ -69,7 +50,7 @@ demand_sanitized() {
 }
 
 demand_packages
-build_library
+build jinthoral
 echo "compiling the comparison .."
 compile compare -O2
 compile sanitized -O1 -g -fsanitize=address,undefined -fno-sanitize-recover=undefined

@@ -10,13 +10,13 @@
 #
 #     LIBRARY=some/libjinthoral.a KEYS_LIBRARY=some/libone_block.a scripts/compare-speed.sh
 #
-# It wants the Debian packages below, and installs nothing.
+# It wants the Debian packages that scripts/peers.sh names, and installs nothing.
 set -euo pipefail
 # These paths are those of the directory which the script was called from.
 library=${LIBRARY:+$(realpath -- "$LIBRARY")}
 keys_library=${KEYS_LIBRARY:+$(realpath -- "$KEYS_LIBRARY")}
 cd "$(dirname "$0")/.."
-packages="g++ libssl-dev libcrypto++-dev libbotan-2-dev"
+script=compare-speed
 headers="openssl/des.h cryptopp/cryptlib.h botan/block_cipher.h"
 sources="speed contest speed_report speed_library speed_openssl speed_cryptopp speed_botan"
 # These tell the versions of the packages.
@@ -28,28 +28,7 @@ flags="-std=c++17 -Wall -Wextra -O2 -I/usr/include/botan-2 -Icrates/jinthoral/in
 log=$(mktemp)
 report=$(mktemp)
 trap 'rm -f "$log" "$report"' EXIT
-
-stop() {
-    echo "compare-speed: $1" >&2
-    exit 2
-}
-
-demand_packages() {
-    local header
-    for header in $headers; do
-        echo "#include <$header>" | g++ $flags -fsyntax-only -x c++ - 2> "$log" ||
-            stop "$header is wanting. Install Debian's packages: apt-get install $packages"
-    done
-}
-
-# build CRATE: proves and builds its static library.
-build() {
-    local made=crates/$1/out/lib$1.a
-    echo "proving and building $1 .." >&2
-    rm -f "$made"
-    (cd "crates/$1" && rt lib) > "$log" 2>&1 < /dev/null || true
-    [ -f "$made" ] || { cat "$log" >&2; stop "$1 was not proved and built"; }
-}
+. scripts/peers.sh
 
 # take LIBRARY CALL: makes an object of the library with the call. Where the linker puts the library's code, counted modulo 64,
 # changes how fast it is. So it always begins at a multiple of 64.
