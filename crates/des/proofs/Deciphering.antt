@@ -1,7 +1,7 @@
 -- Deciphering is the inverse of enciphering. Assumes nothing.
 use Rattle.std.proofs.Common.{◌≡◌, ℕ, ◌^◌, ◌<◌, false, List, reverse, refl, sym, subst, ap, ◌∙◌}
 use Rattle.std.proofs.lemmas.List.{reverse-reverse}
-use Rattle.groups.specs.Xor.{xor_lawful}
+use Rattle.groups.specs.internal.Xor.{xor_lawful}
 use Rattle.networks.proofs.Splits.{block_fits, block_halves, halves_block, halves_fit}
 use Rattle.networks.proofs.TwoWays.{inverses}
 use Rattle.networks.specs.Halves.{halves_of, block_of}

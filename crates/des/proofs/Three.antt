@@ -2,7 +2,7 @@
 use Rattle.std.proofs.Common.{◌≡◌, ℕ, Bool, true, false, zero, suc, ◌+◌, ◌*◌, ◌^◌, ◌<◌, List, get_or, take, drop, reverse, refl, sym, subst, ap, ◌∙◌, arith}
 use Rattle.std.proofs.lemmas.List.{drop-drop}
 use Rattle.std.specs.Simd.{first_chunks}
-use Rattle.groups.specs.Xor.{xor_lawful}
+use Rattle.groups.specs.internal.Xor.{xor_lawful}
 use Rattle.networks.specs.HalfWords.{Faithful}
 use Rattle.networks.specs.Rounds.{turned}
 use Rattle.networks.proofs.TwoWays.{inverses}

@@ -1,6 +1,6 @@
 // Halves as the boxes take them, and their group.
 ghost use Rattle.std.specs.Prelude.{◌≡◌, ◌^◌, ◌<◌, bit_xor, refl};
-ghost use Rattle.groups.specs.Xor.{xor_lawful};
+ghost use Rattle.groups.specs.internal.Xor.{xor_lawful};
 ghost use Rattle.des.specs.Spread.{Groups, half_of, spread};
 
 use groups::{Group, Word};
@@ -110,6 +110,11 @@ fn joined(left: Spread, right: Spread) -> u64
 
 impl Word for Spread {
     ghost fits = { λ x. x < 2 ^ 32 };
+
+    // A half has 32 bits, whatever keeps it.
+    fn word(self) -> Spread {
+        self
+    }
 }
 
 impl HalfWord for Spread {

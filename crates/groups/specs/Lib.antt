@@ -1,3 +1,3 @@
 pub mod Laws
 pub mod Sums
-pub mod Xor
+pub mod internal

@@ -8,6 +8,11 @@ ghost use Rattle.groups.specs.Sums.{sum, negative};
 pub trait Word: Copy {
     // the numbers that are words of this type
     ghost fits: { Self → Type 0 };
+
+    // The word itself. It tells that every value of the type is a word, so that no type can call only some of them words.
+    fn word(self) -> Self
+        ensures value { result ≡ self }
+        ensures fits { fits self };
 }
 
 // Words with their sum modulo the number of words.
@@ -33,10 +38,18 @@ pub trait Summed: Word {
 
 impl Word for u16 {
     ghost fits = { λ x. x < 2 ^ 16 };
+
+    fn word(self) -> u16 {
+        self
+    }
 }
 
 impl Word for u32 {
     ghost fits = { λ x. x < 2 ^ 32 };
+
+    fn word(self) -> u32 {
+        self
+    }
 }
 
 // One implementation for each width: it holds what the widths differ in. No macro could write both, since its body can hold

@@ -1,6 +1,6 @@
 // Exclusive or of 32-bit words: each word is its own inverse.
 ghost use Rattle.std.specs.Prelude.{bit_xor};
-ghost use Rattle.groups.specs.Xor.{xor_lawful};
+ghost use Rattle.groups.specs.internal.Xor.{xor_lawful};
 
 use crate::lawful::Group;
 

@@ -1,6 +1,6 @@
 -- What a key makes of a block is a block. Assumes nothing.
 use Rattle.std.proofs.Common.{ℕ, ◌^◌, ◌<◌, arith}
-use Rattle.groups.specs.Xor.{xor_lawful}
+use Rattle.groups.specs.internal.Xor.{xor_lawful}
 use Rattle.networks.specs.Halves.{halves_of}
 use Rattle.networks.proofs.Splits.{halves_fit}
 use Rattle.whitening.specs.Whitening.{wxor, wadd}
