@@ -3,7 +3,7 @@ use Rattle.std.proofs.Common.{ℕ, Bool, true, false, not, List}
 use Rattle.selections.specs.Permutations.{NamesEachOnce, inverse_table}
 use Rattle.selections.proofs.Inverse.{inverse_after, inverse_before, picked_fits, length_inverse}
 use Rattle.ciphers.specs.Maps.{Inverse}
-use Rattle.ciphers.specs.Permutations.{permuted_by}
+use Rattle.ciphers.specs.internal.Sealing.{permuted_by}
 
 module _ (table : List ℕ) (names : NamesEachOnce 64 table) where
   -- turned or not, the permutation and the turned one undo each other

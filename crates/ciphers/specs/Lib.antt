@@ -1,3 +1,3 @@
 pub mod Blocks
 pub mod Maps
-pub mod Permutations
+pub mod internal

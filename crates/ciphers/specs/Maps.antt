@@ -1,5 +1,5 @@
 -- Maps of 64-bit blocks. Assumes nothing.
-use Rattle.std.specs.Prelude.{◌≡◌, Bool, if◌then◌else◌, ℕ, ◌^◌, ◌<◌}
+use Rattle.std.specs.Prelude.{◌≡◌, ℕ, ◌^◌, ◌<◌}
 use Rattle.networks.specs.Inverses.{Inverses}
 
 -- the same map of blocks
@@ -9,10 +9,6 @@ SameMap f g = (b : ℕ) → b < 2 ^ 64 → f b ≡ g b
 -- on blocks, both maps give blocks and undo each other, in either order
 abbrev pub Inverse : (ℕ → ℕ) → (ℕ → ℕ) → Type 0
 Inverse f g = Inverses (λ b. b < 2 ^ 64) f g
-
--- f and then g, or g and then f where the order is reversed
-abbrev pub composed : Bool → (ℕ → ℕ) → (ℕ → ℕ) → ℕ → ℕ
-composed reversed f g b = if reversed then f (g b) else g (f b)
 
 -- f, then g, then h
 abbrev pub in_turn : (ℕ → ℕ) → (ℕ → ℕ) → (ℕ → ℕ) → ℕ → ℕ

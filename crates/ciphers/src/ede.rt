@@ -37,6 +37,9 @@ impl<C: Cipher> Ede<C> {
 impl<C: Cipher> Cipher for Ede<C> {
     ghost map = { λ e. in_turn (C.Cipher.map e.first) (C.Cipher.map e.second) (C.Cipher.map e.third) };
 
+    // the first and the third change places, and all three are turned
+    ghost turns = { λ old new. C.Cipher.turns old.third new.first × C.Cipher.turns old.second new.second × C.Cipher.turns old.first new.third };
+
     fn seal(&self, block: u64) -> u64 {
         self.third.seal(self.second.seal(self.first.seal(block)))
     }

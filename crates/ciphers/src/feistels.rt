@@ -3,7 +3,6 @@ ghost use Rattle.std.specs.Prelude.{◌≡◌};
 ghost use Rattle.networks.specs.Networks.{network};
 ghost use Rattle.networks.specs.Rounds.{ran, turned, unran};
 ghost use Rattle.ciphers.specs.Blocks.{block_of_words, feistel_of, words_of};
-ghost use Rattle.ciphers.specs.Maps.{Inverse};
 
 use crate::interface::Cipher;
 use crate::undoing::Undo;
@@ -35,7 +34,12 @@ impl<W: HalfWord, G: Group<Word = W>, F: RoundFunction<Half = W>, const N: usize
     for Feistel<G, F, N> {
     ghost map = { λ n. feistel_of W.HalfWord.word_of W.HalfWord.number_of (network G.Group F.RoundFunction n) };
 
-    fn seal(&self, block: u64) -> u64 {
+    // the network is turned: its round words are reversed, and its function's values inverted
+    ghost turns = { λ old new. network G.Group F.RoundFunction new ≡ turned (network G.Group F.RoundFunction old) };
+
+    fn seal(&self, block: u64) -> u64
+        ensures { result ≡ feistel_of W.HalfWord.word_of W.HalfWord.number_of (network G.Group F.RoundFunction self.now) block }
+    {
         join(self.run(split(block)))
     }
 
@@ -54,10 +58,7 @@ impl<W: HalfWord, G: Group<Word = W>, F: RoundFunction<Half = W>, const N: usize
         }
     }
 
-    fn turn(&mut self)
-        ensures inverse { Inverse (feistel_of W.HalfWord.word_of W.HalfWord.number_of (network G.Group F.RoundFunction self.old)) (feistel_of W.HalfWord.word_of W.HalfWord.number_of (network G.Group F.RoundFunction self.new)) }
-        ensures network { network G.Group F.RoundFunction self.new ≡ turned (network G.Group F.RoundFunction self.old) }
-    {
+    fn turn(&mut self) {
         self.turn();
     }
 }

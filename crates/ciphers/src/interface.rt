@@ -9,6 +9,9 @@ use networks::Four;
 pub trait Cipher {
     ghost map: { Self → ℕ → ℕ };
 
+    // what a turn makes of the value, where that is more than the inverse map
+    ghost turns: { Self → Self → Type 0 } = { λ old new. Unit {0} };
+
     // The map's block: encrypts, or decrypts once the cipher is turned.
     fn seal(&self, block: u64) -> u64
         ensures { result ≡ map self.now block };
@@ -27,5 +30,6 @@ pub trait Cipher {
 
     // Becomes the inverse, in place: what it sealed, it now opens.
     fn turn(&mut self)
-        ensures { Inverse (map self.old) (map self.new) };
+        ensures inverse { Inverse (map self.old) (map self.new) }
+        ensures turned { turns self.old self.new };
 }

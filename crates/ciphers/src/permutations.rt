@@ -2,8 +2,7 @@
 ghost use Rattle.std.specs.Prelude.{◌≡◌, not, List, ℕ, true, false};
 ghost use Rattle.selections.specs.Permutations.{NamesEachOnce, inverse_table};
 ghost use Rattle.selections.specs.Selections.{picked};
-ghost use Rattle.ciphers.specs.Maps.{Inverse};
-ghost use Rattle.ciphers.specs.Permutations.{permuted_by};
+ghost use Rattle.ciphers.specs.internal.Sealing.{permuted_by};
 
 use crate::interface::Cipher;
 use crate::undoing::Undo;
@@ -33,7 +32,8 @@ pub struct BitPermutation<P> {
 
 impl<P: Permutation> BitPermutation<P> {
     pub fn new() -> Self
-        ensures { result.inverted ≡ false }
+        ensures direction { result.inverted ≡ false }
+        ensures map { (b : ℕ) → ⟦<Self as Cipher>⟧.map result b ≡ picked 64 P.table b }
     {
         BitPermutation {
             inverted: false,
@@ -43,7 +43,8 @@ impl<P: Permutation> BitPermutation<P> {
 
     // The permutation by the inverse table.
     pub fn inverse() -> Self
-        ensures { result.inverted ≡ true }
+        ensures direction { result.inverted ≡ true }
+        ensures map { (b : ℕ) → ⟦<Self as Cipher>⟧.map result b ≡ picked 64 (inverse_table 64 P.table) b }
     {
         BitPermutation {
             inverted: true,
@@ -78,14 +79,14 @@ impl<P: Permutation> BitPermutation<P> {
 impl<P: Permutation> Cipher for BitPermutation<P> {
     ghost map = { λ p. permuted_by p.inverted P.table };
 
+    // the other table is gone by
+    ghost turns = { λ old new. new.inverted ≡ not old.inverted };
+
     fn seal(&self, block: u64) -> u64 {
         Self::through(self.inverted, block)
     }
 
-    fn turn(&mut self)
-        ensures inverse { Inverse (permuted_by self.old.inverted P.table) (permuted_by self.new.inverted P.table) }
-        ensures direction { self.new.inverted ≡ not self.old.inverted }
-    {
+    fn turn(&mut self) {
         self.invert();
     }
 }

@@ -1,6 +1,6 @@
 // One cipher after another.
-ghost use Rattle.std.specs.Prelude.{◌≡◌, false};
-ghost use Rattle.ciphers.specs.Maps.{composed};
+ghost use Rattle.std.specs.Prelude.{◌≡◌, ℕ, false, not};
+ghost use Rattle.ciphers.specs.internal.Sealing.{composed};
 
 use crate::interface::Cipher;
 use crate::undoing::Undo;
@@ -20,6 +20,7 @@ impl<A: Cipher, B: Cipher> Pair<A, B> {
         ensures first { result.first ≡ first }
         ensures second { result.second ≡ second }
         ensures order { result.reversed ≡ false }
+        ensures map { (b : ℕ) → ⟦<Self as Cipher>⟧.map result b ≡ B.Cipher.map second (A.Cipher.map first b) }
     {
         Pair {
             first,
@@ -31,6 +32,9 @@ impl<A: Cipher, B: Cipher> Pair<A, B> {
 
 impl<A: Cipher, B: Cipher> Cipher for Pair<A, B> {
     ghost map = { λ p. composed p.reversed (A.Cipher.map p.first) (B.Cipher.map p.second) };
+
+    // both are turned, and their order is reversed
+    ghost turns = { λ old new. A.Cipher.turns old.first new.first × B.Cipher.turns old.second new.second × (new.reversed ≡ not old.reversed) };
 
     fn seal(&self, block: u64) -> u64 {
         if self.reversed {

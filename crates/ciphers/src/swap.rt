@@ -1,4 +1,5 @@
 // The swap of a block's halves, which is its own inverse.
+ghost use Rattle.std.specs.Prelude.{◌≡◌};
 ghost use Rattle.ciphers.specs.Blocks.{halves_swapped};
 
 use crate::interface::Cipher;
@@ -11,7 +12,9 @@ pub struct SwapHalves;
 impl Cipher for SwapHalves {
     ghost map = { λ _. halves_swapped };
 
-    fn seal(&self, block: u64) -> u64 {
+    fn seal(&self, block: u64) -> u64
+        ensures { result ≡ halves_swapped block }
+    {
         Halves::from(block).swap().into()
     }
 

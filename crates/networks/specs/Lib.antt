@@ -4,3 +4,4 @@ pub mod Halves
 pub mod Inverses
 pub mod Networks
 pub mod Rounds
+pub mod internal

@@ -1,9 +1,10 @@
 // Feistel networks over any group and round function.
 ghost use Rattle.std.specs.Prelude.{◌≡◌, false, if◌then◌else◌};
-ghost use Rattle.networks.specs.Fours.{each, rounds_abreast};
+ghost use Rattle.networks.specs.Fours.{each};
 ghost use Rattle.networks.specs.Halves.{Words};
 ghost use Rattle.networks.specs.Inverses.{Inverses};
 ghost use Rattle.networks.specs.Networks.{network};
+ghost use Rattle.networks.specs.internal.Abreast.{rounds_abreast};
 ghost use Rattle.networks.specs.Rounds.{applied, round, rounds, unround, unrounds, ran, unran, turned};
 
 use crate::fours::Four;
@@ -195,9 +196,9 @@ impl<G: Group, F: RoundFunction<Half = G::Word>, const N: usize> Feistel<G, F, N
     // What the network makes of the halves. The turned network takes it back.
     pub fn run(&self, halves: Halves<G::Word>) -> Halves<G::Word>
         ensures value { result ≡ ran (network G.Group F.RoundFunction self.now) halves }
-        ensures back { Words G.Word.Word.fits halves → ran (turned (network G.Group F.RoundFunction self.now)) result ≡ halves }
+        ensures back { ran (turned (network G.Group F.RoundFunction self.now)) result ≡ halves }
     {
-        self.ran(halves)
+        self.ran(halves.words())
     }
 
     // The same of four pairs of halves.
@@ -236,9 +237,9 @@ impl<G: Group, F: RoundFunction<Half = G::Word>, const N: usize> Feistel<G, F, N
     pub fn undo(&self, halves: Halves<G::Word>) -> Halves<G::Word>
         ensures value { result ≡ unran (network G.Group F.RoundFunction self.now) halves }
         ensures turned { result ≡ ran (turned (network G.Group F.RoundFunction self.now)) halves }
-        ensures back { Words G.Word.Word.fits halves → ran (network G.Group F.RoundFunction self.now) result ≡ halves }
+        ensures back { ran (network G.Group F.RoundFunction self.now) result ≡ halves }
     {
-        self.undone(halves)
+        self.undone(halves.words())
     }
 
     // The round words reversed, and the function's values inverted, or no longer inverted.
@@ -258,12 +259,13 @@ impl<G: Group, F: RoundFunction<Half = G::Word>, const N: usize> Feistel<G, F, N
         self.reverse();
     }
 
-    // Both ways back of any halves, the rounds undone and the turned network run: they agree.
-    // The network is as it was afterwards, which is more than a cipher promises of its map.
+    // Both ways back of any halves, the rounds undone and the turned network run: they agree, and lead back to halves that
+    // the network makes into these. It is as it was afterwards, which is more than a cipher promises of its map.
     pub fn ways_back(&mut self, halves: Halves<G::Word>) -> WaysBack<Halves<G::Word>>
         ensures undone { result.undone ≡ unran (network G.Group F.RoundFunction self.old) halves }
         ensures turned { result.turned ≡ ran (turned (network G.Group F.RoundFunction self.old)) halves }
         ensures agree { result.undone ≡ result.turned }
+        ensures back { ran (network G.Group F.RoundFunction self.old) result.undone ≡ halves }
         ensures same { network G.Group F.RoundFunction self.new ≡ network G.Group F.RoundFunction self.old }
     {
         let undone = self.undo(halves);

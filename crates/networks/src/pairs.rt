@@ -1,6 +1,8 @@
 // The two halves that a Feistel network works on.
 ghost use Rattle.std.specs.Prelude.{◌≡◌};
-ghost use Rattle.networks.specs.Halves.{swapped, halves_of, block_of};
+ghost use Rattle.networks.specs.Halves.{Words, swapped, halves_of, block_of};
+
+use groups::Word;
 
 #[derive(Clone, Copy, Debug, PartialEq, Eq)]
 pub struct Halves<W> {
@@ -16,6 +18,20 @@ impl<W> Halves<W> {
         Halves {
             left: right,
             right: left,
+        }
+    }
+}
+
+impl<W: Word> Halves<W> {
+    // The halves themselves. It tells that both are words.
+    #[inline(always)]
+    pub(crate) fn words(self) -> Halves<W>
+        ensures value { result ≡ self }
+        ensures fits { Words W.Word.fits self }
+    {
+        Halves {
+            left: self.left.word(),
+            right: self.right.word(),
         }
     }
 }

@@ -27,7 +27,7 @@ fn network(rounds: usize) -> Feistel<Sum16, Added, 64> {
     let mut words = [0; 64];
     words[0] = 1;
     words[1] = 0xFFFF;
-    Feistel::new(Added, Schedule::first(rounds, words))
+    Feistel::new(Added, Schedule::first(rounds, words).unwrap())
 }
 
 #[test]

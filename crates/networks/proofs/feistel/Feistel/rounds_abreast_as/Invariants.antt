@@ -1,6 +1,6 @@
 -- What the loop of `rounds_abreast_as` keeps. Assumes nothing.
 use Rattle.std.proofs.Common.{◌≡◌, length, map}
-use Rattle.networks.specs.Fours.{rounds_abreast}
+use Rattle.networks.specs.internal.Abreast.{rounds_abreast}
 use Rattle.networks.specs.Networks.{network}
 use Rattle.networks.proofs.feistel.Feistel.rounds_abreast_as.Given as goal
 
