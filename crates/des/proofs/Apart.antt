@@ -7,8 +7,8 @@ use Rattle.selections.specs.Selections.{picked}
 use Rattle.selections.proofs.Linear.{Linear, agree, each_below, linear_after, linear_and, linear_picked, linear_shl, same_linear}
 use Rattle.des.specs.Des.{group}
 use Rattle.des.specs.Boxes.{boxed}
-use Rattle.des.specs.Merged.{placed, share}
-use Rattle.des.specs.Spread.{spread, spread_table}
+use Rattle.des.specs.internal.Merged.{placed, share}
+use Rattle.des.specs.internal.Spread.{spread, spread_table}
 use Rattle.des.specs.Tables.{permutation}
 use Rattle.des.proofs.Rows.{boxed_fits}
 

@@ -5,10 +5,10 @@ use Rattle.std.specs.Int.Bits.{bit_and, bit_xor}
 use Rattle.std.proofs.lemmas.List.FromFn.{get_or-map-range_with_len}
 use Rattle.selections.specs.Selections.{picked}
 use Rattle.selections.proofs.Linear.{Linear, agree, linear_after, linear_and, linear_mod, linear_picked, linear_shl, linear_shr, linear_xor, same_linear}
-use Rattle.des.specs.Expansion.{all_chosen, choice_numbers, chosen_at, chosen_bits, kept_table}
+use Rattle.des.specs.internal.Expansion.{all_chosen, choice_numbers, chosen_at, chosen_bits, kept_table}
 use Rattle.des.specs.Keys.{chosen}
-use Rattle.des.specs.Spread.{word_of, word_table}
-use Rattle.des.specs.Swaps.{exchanged}
+use Rattle.des.specs.KeptWords.{word_of, word_table}
+use Rattle.des.specs.internal.Swaps.{exchanged}
 use Rattle.des.specs.Tables.{choice_1, choice_2}
 use Rattle.des.proofs.Swaps.{linear_exchanged}
 

@@ -1,13 +1,13 @@
 -- The layers of a new cipher are DES, and deciphering is their inverse. Assumes nothing.
 use Rattle.std.proofs.Common.{◌≡◌, ℕ, Bool, true, false, List, refl, ap, ◌∙◌}
 use Rattle.ciphers.specs.Blocks.{feistel}
-use Rattle.ciphers.specs.Maps.{SameMap, composed}
-use Rattle.ciphers.specs.Permutations.{permuted_by}
+use Rattle.ciphers.specs.Maps.{SameMap}
+use Rattle.ciphers.specs.internal.Sealing.{composed, permuted_by}
 use Rattle.selections.specs.Selections.{picked}
 use Rattle.selections.specs.Permutations.{inverse_table}
 use Rattle.des.specs.Des.{through, des}
 use Rattle.des.specs.Keys.{round_words}
-use Rattle.des.specs.Sealing.{network_of}
+use Rattle.des.specs.Networks.{network_of}
 use Rattle.des.specs.Tables.{initial, final}
 
 -- the last table is the inverse of the first

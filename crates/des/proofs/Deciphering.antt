@@ -17,7 +17,7 @@ use Rattle.des.proofs.Ciphering.{final_is}
 use Rattle.des.proofs.Complement.{f_below}
 use Rattle.des.specs.Des.{through, des, deciphered}
 use Rattle.des.specs.Keys.{round_words}
-use Rattle.des.specs.Sealing.{network_of}
+use Rattle.des.specs.Networks.{network_of}
 use Rattle.des.specs.Tables.{initial, final}
 
 names : NamesEachOnce 64 initial

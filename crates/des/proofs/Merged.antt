@@ -11,8 +11,9 @@ use Rattle.selections.proofs.Linear.{Linear, agree, each_below, linear_after, li
 use Rattle.selections.proofs.Picked.{picked_below}
 use Rattle.des.specs.Boxes.{boxed}
 use Rattle.des.specs.Des.{group, f}
-use Rattle.des.specs.Merged.{placed, merged_numbers, mixed, share, shares}
-use Rattle.des.specs.Spread.{Groups, byte_of, half_of, spread, spread_table, word_of, word_table}
+use Rattle.des.specs.internal.Merged.{placed, merged_numbers, mixed, share, shares}
+use Rattle.des.specs.KeptWords.{byte_of, word_of, word_table}
+use Rattle.des.specs.internal.Spread.{Groups, half_of, spread, spread_table}
 use Rattle.des.specs.Tables.{expansion, permutation}
 use Rattle.des.proofs.Rows.{boxed_fits}
 use Rattle.des.proofs.Spreading.{half_spread, spread_groups, spread_xor}

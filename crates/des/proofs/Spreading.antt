@@ -4,7 +4,7 @@ use Rattle.std.specs.Int.Bits.{bit_and, bit_xor}
 use Rattle.std.proofs.lemmas.Nat.{xor_lt}
 use Rattle.selections.proofs.Linear.{Linear, agree, linear_id, linear_after, linear_and, linear_mod, linear_picked, linear_shl, linear_shr, linear_xor, picked_xor, same_linear}
 use Rattle.selections.proofs.Picked.{picked_below}
-use Rattle.des.specs.Spread.{Groups, half_of, half_table, spread, spread_table}
+use Rattle.des.specs.internal.Spread.{Groups, half_of, half_table, spread, spread_table}
 
 -- a half spread by shifts
 abbrev shifted : ℕ → ℕ

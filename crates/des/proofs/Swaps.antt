@@ -3,7 +3,7 @@ use Rattle.std.proofs.Common.{◌≡◌, ℕ, ◌^◌, ◌<◌, true, refl, sym,
 use Rattle.selections.specs.Permutations.{inverse_table}
 use Rattle.selections.specs.Selections.{picked}
 use Rattle.selections.proofs.Linear.{Linear, agree, linear_after, linear_and, linear_mod, linear_picked, linear_shl, linear_shr, linear_xor, same_linear}
-use Rattle.des.specs.Swaps.{exchanged, others}
+use Rattle.des.specs.internal.Swaps.{exchanged, others}
 use Rattle.des.specs.Tables.{initial, final}
 use Rattle.des.proofs.Ciphering.{final_is}
 

@@ -9,17 +9,19 @@ use Rattle.networks.proofs.TwoWays.{inverses}
 use Rattle.selections.specs.Permutations.{inverse_table}
 use Rattle.selections.specs.Selections.{picked}
 use Rattle.selections.proofs.Picked.{picked_below}
-use Rattle.ciphers.specs.Maps.{SameMap, Inverse, composed, in_turn}
-use Rattle.ciphers.specs.Permutations.{permuted_by}
+use Rattle.ciphers.specs.Maps.{SameMap, Inverse, in_turn}
+use Rattle.ciphers.specs.internal.Sealing.{composed, permuted_by}
 use Rattle.ciphers.proofs.Networks.{inverse_blocks}
 use Rattle.des.proofs.Ciphering.{final_is}
 use Rattle.des.proofs.Complement.{f_below}
 use Rattle.des.proofs.Deciphering.{last_first}
 use Rattle.des.specs.Des.{through}
 use Rattle.des.specs.Keys.{round_words}
-use Rattle.des.specs.Sealing.{enciphering, network_of}
+use Rattle.des.specs.Networks.{network_of}
+use Rattle.des.specs.internal.Sealing.{enciphering}
 use Rattle.des.specs.Tables.{initial, final}
-use Rattle.des.specs.Triple.{in_network, tdea}
+use Rattle.des.specs.Triple.{tdea}
+use Rattle.des.specs.internal.Sealing.{in_network}
 
 -- a network and the one with the round words in the reverse order
 rounds_back : (ks : List ℕ) → Inverse (enciphering ks) (enciphering (reverse ks))

@@ -1,11 +1,9 @@
 pub mod Boxes
 pub mod Des
-pub mod Expansion
 pub mod Keys
-pub mod Merged
+pub mod KeptWords
+pub mod Networks
 pub mod Opposites
-pub mod Sealing
-pub mod Spread
-pub mod Swaps
 pub mod Tables
 pub mod Triple
+pub mod internal

@@ -1,10 +1,7 @@
 -- Triple DES, as SP 800-67 has it. Assumes nothing.
-use Rattle.std.specs.Prelude.{ℕ, ◌*◌, List, reverse, take, drop}
+use Rattle.std.specs.Prelude.{ℕ, ◌*◌, List, take, drop}
 use Rattle.std.specs.Int.{from_be_bytes, w64}
-use Rattle.ciphers.specs.Maps.{in_turn}
 use Rattle.des.specs.Des.{des, deciphered}
-use Rattle.des.specs.Keys.{round_words}
-use Rattle.des.specs.Sealing.{enciphering}
 
 -- enciphered under the first key, deciphered under the second, enciphered under the third
 abbrev pub tdea : ℕ → ℕ → ℕ → ℕ → ℕ
@@ -13,7 +10,3 @@ tdea first second third b = des third (deciphered second (des first b))
 -- key i of several, from 0, of eight bytes each
 unfoldable pub key_at : List ℕ → ℕ → ℕ
 key_at keys i = from_be_bytes w64 (take 8 (drop (8 * i) keys))
-
--- the same between the permutations. No public clause cites it
-unfoldable pub in_network : ℕ → ℕ → ℕ → ℕ → ℕ
-in_network first second third = in_turn (enciphering (round_words first)) (enciphering (reverse (round_words second))) (enciphering (round_words third))

@@ -1,10 +1,12 @@
 // DES as a cipher: the initial permutation, a Feistel network of sixteen rounds over xor, and the inverse permutation.
-ghost use Rattle.std.specs.Prelude.{◌≡◌, ℕ};
+ghost use Rattle.std.specs.Prelude.{◌≡◌, ℕ, false};
 ghost use Rattle.std.specs.Int.{from_be_bytes, w64};
+ghost use Rattle.networks.specs.Rounds.{turned};
 ghost use Rattle.ciphers.specs.Maps.{SameMap, Inverse};
 ghost use Rattle.des.specs.Des.{des, deciphered};
 ghost use Rattle.des.specs.Keys.{round_words, SameButEighths};
-ghost use Rattle.des.specs.Sealing.{sealing};
+ghost use Rattle.des.specs.Networks.{network_in, network_of};
+ghost use Rattle.des.specs.internal.Sealing.{sealing};
 
 use crate::initial::Initial;
 use crate::keys::key_schedule;
@@ -23,8 +25,8 @@ pub struct Des {
 impl Des {
     #[tactic(auto, using(crate::proofs::Ciphering::sealed_new, crate::proofs::Deciphering::des_inverse, crate::proofs::Eighths::des_same))]
     pub fn new(key: &[u8; 8]) -> Des
-        ensures words { result.layers.second.first.schedule ≡ round_words (from_be_bytes w64 key.now) }
-        ensures map { SameMap (sealing result) (des (from_be_bytes w64 key.now)) }
+        ensures network { network_in result ≡ network_of false (round_words (from_be_bytes w64 key.now)) }
+        ensures map { SameMap (⟦<Des as Cipher>⟧.map result) (des (from_be_bytes w64 key.now)) }
         ensures eighths { (k : ℕ) → SameButEighths (from_be_bytes w64 key.now) k → (b : ℕ) → des (from_be_bytes w64 key.now) b ≡ des k b }
         ensures inverse { Inverse (des (from_be_bytes w64 key.now)) (deciphered (from_be_bytes w64 key.now)) }
     {
@@ -40,6 +42,9 @@ impl Des {
 
 impl Cipher for Des {
     ghost map = { sealing };
+
+    // the network is turned: its round words are reversed, and its function's values inverted
+    ghost turns = { λ old new. network_in new ≡ turned (network_in old) };
 
     fn seal(&self, block: u64) -> u64 {
         self.layers.seal(block)

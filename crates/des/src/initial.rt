@@ -1,13 +1,13 @@
 // The initial permutation IP, and the one that takes it back: five exchanges of bits each.
 ghost use Rattle.std.specs.Prelude.{◌≡◌, ◌<◌, refl};
-ghost use Rattle.des.specs.Swaps.{exchanged};
+ghost use Rattle.des.specs.internal.Swaps.{exchanged};
 ghost use Rattle.des.specs.Tables.{initial};
 
 use ciphers::Permutation;
 
 // The bits that a mask names and those some places above them exchanged. The bits that move and those that stay are taken
 // apart, which takes fewer steps one after another than joining in where they differ.
-#[tactic(auto, unfolding(crate::specs::Swaps::exchanged))]
+#[tactic(auto, unfolding(crate::specs::internal::Swaps::exchanged))]
 pub(crate) fn exchange(block: u64, places: u32, mask: u64) -> u64
     requires { places < 64 }
     ensures { result ≡ exchanged places mask block }

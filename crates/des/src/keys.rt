@@ -1,11 +1,11 @@
 // The key schedule of DES.
-ghost use Rattle.std.specs.Prelude.{◌≡◌, ◌≤◌, ◌<◌, ◌+◌, ◌*◌, ◌/◌, ◌%◌, ◌^◌, IsTrue, nat_le};
+ghost use Rattle.std.specs.Prelude.{◌≡◌, ◌≤◌, ◌<◌, ◌+◌, ◌*◌, ◌/◌, ◌%◌, ◌^◌, IsTrue, map, nat_le};
 ghost use Rattle.std.specs.List.{list_all};
 ghost use Rattle.std.specs.Int.{from_be_bytes, w64};
 ghost use Rattle.selections.specs.Selections.{picked};
-ghost use Rattle.des.specs.Expansion.{all_chosen, choice_numbers, chosen_at, chosen_bits};
+ghost use Rattle.des.specs.internal.Expansion.{all_chosen, choice_numbers, chosen_at, chosen_bits};
 ghost use Rattle.des.specs.Keys.{rotated, chosen, words_from, round_words};
-ghost use Rattle.des.specs.Spread.{word_of};
+ghost use Rattle.des.specs.KeptWords.{word_of};
 ghost use Rattle.des.specs.Tables.{choice_1};
 
 use crate::initial::exchange;
@@ -32,7 +32,7 @@ fn choose_parts(key: u64) -> u64
 }
 
 // For each four bits of the two parts of the key, what PC-2 chooses of them, as the boxes take it.
-#[tactic(auto, unfolding(crate::specs::Expansion::choice_numbers, crate::specs::Expansion::chosen_bits))]
+#[tactic(auto, unfolding(crate::specs::internal::Expansion::choice_numbers, crate::specs::internal::Expansion::chosen_bits))]
 fn choices() -> &'static [u64; 224]
     ensures { result.now ≡ choice_numbers }
 {
@@ -94,6 +94,13 @@ fn rotate(part: u64, places: u32) -> u64
     rotated(part, places)
 }
 
+// The schedule of such words: sixteen at most are not too many.
+fn schedule(kept: ArrayVec<u64, 16>) -> Schedule<DesRound, 16>
+    ensures { result ≡ map word_of kept.items }
+{
+    Schedule::new(kept).unwrap()
+}
+
 // The round words of two parts of 28 bits, which rotate before each round.
 #[tactic(auto, using(crate::proofs::Parts::each_few))]
 fn words_from(parts: u64, shifts: &[u32; 16]) -> Schedule<DesRound, 16>
@@ -109,7 +116,7 @@ fn words_from(parts: u64, shifts: &[u32; 16]) -> Schedule<DesRound, 16>
         right = rotate(right, *places);
         kept.push(choose(left, right));
     }
-    Schedule::from(kept)
+    schedule(kept)
 }
 
 // The sixteen round words of a key: PC-1 gives the two parts.

@@ -3,15 +3,16 @@ ghost use Rattle.std.specs.Prelude.{◌≡◌, ◌+◌, ◌*◌, ◌^◌, ◌%�
 ghost use Rattle.selections.proofs.Picked.{picked_below};
 ghost use Rattle.des.specs.Tables.{permutation};
 ghost use Rattle.des.specs.Des.{group, f};
-ghost use Rattle.des.specs.Merged.{merged_numbers, mixed, placed, share, shares};
-ghost use Rattle.des.specs.Spread.{Groups, byte_of, half_of, spread, word_of};
+ghost use Rattle.des.specs.internal.Merged.{merged_numbers, mixed, placed, share, shares};
+ghost use Rattle.des.specs.KeptWords.{byte_of, word_of};
+ghost use Rattle.des.specs.internal.Spread.{Groups, half_of, spread};
 
 use crate::spread::{GROUPS, Spread};
 use crate::tables::MERGED;
 use networks::RoundFunction;
 
 // For each box and each six bits, what P makes of the box's four bits in their place, as the boxes of the next round take it.
-#[tactic(auto, unfolding(crate::specs::Merged::merged_numbers, crate::specs::Merged::placed, crate::specs::Boxes::boxed, crate::specs::Spread::spread))]
+#[tactic(auto, unfolding(crate::specs::internal::Merged::merged_numbers, crate::specs::internal::Merged::placed, crate::specs::Boxes::boxed, crate::specs::internal::Spread::spread))]
 fn merged() -> &'static [u64; 512]
     ensures { result.now ≡ merged_numbers }
 {

@@ -1,7 +1,7 @@
 // Halves as the boxes take them, and their group.
 ghost use Rattle.std.specs.Prelude.{◌≡◌, ◌^◌, ◌<◌, bit_xor, refl};
 ghost use Rattle.groups.specs.internal.Xor.{xor_lawful};
-ghost use Rattle.des.specs.Spread.{Groups, half_of, spread};
+ghost use Rattle.des.specs.internal.Spread.{Groups, half_of, spread};
 
 use groups::{Group, Word};
 use networks::HalfWord;
@@ -19,7 +19,7 @@ pub(crate) struct Spread {
 // A contract sees the half.
 impl Model for Spread {
     ghost use Rattle.std.specs.Prelude.{ℕ, ◌≡◌};
-    ghost use Rattle.des.specs.Spread.{half_of, spread};
+    ghost use Rattle.des.specs.internal.Spread.{half_of, spread};
 
     ghost Value = { ℕ };
 
@@ -71,6 +71,17 @@ impl Spread {
         half_of(self.groups)
     }
 
+    // The half itself. It tells that it has 32 bits.
+    #[tactic(auto, using(crate::proofs::Spreading::half_below))]
+    fn told(self) -> Spread
+        ensures value { result ≡ self }
+        ensures fits { self < 2 ^ 32 }
+    {
+        Spread {
+            groups: self.groups,
+        }
+    }
+
     // Its groups. It tells too that the half has 32 bits.
     #[tactic(auto, using(crate::proofs::Spreading::half_below))]
     fn kept(self) -> u64
@@ -113,7 +124,7 @@ impl Word for Spread {
 
     // A half has 32 bits, whatever keeps it.
     fn word(self) -> Spread {
-        self
+        self.told()
     }
 }
 
@@ -137,7 +148,7 @@ impl HalfWord for Spread {
 #[derive(Clone, Copy)]
 pub(crate) struct XorSpread;
 
-#[tactic(auto, unfolding(crate::specs::Spread::spread, crate::specs::Spread::half_of))]
+#[tactic(auto, unfolding(crate::specs::internal::Spread::spread, crate::specs::internal::Spread::half_of))]
 impl Group for XorSpread {
     type Word = Spread;
 

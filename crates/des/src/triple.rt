@@ -1,10 +1,12 @@
 // Triple DES: DES under one key, back under a second, and again under a third.
-ghost use Rattle.std.specs.Prelude.{◌≡◌, ◌≤◌, ◌+◌, ◌*◌, length, take, drop};
+ghost use Rattle.std.specs.Prelude.{◌≡◌, ◌≤◌, ◌+◌, ◌*◌, length, map, reverse, take, drop};
 ghost use Rattle.std.specs.Int.{from_be_bytes, w64};
 ghost use Rattle.ciphers.specs.Maps.{SameMap};
-ghost use Rattle.des.specs.Sealing.{enciphering, sealing_three};
+ghost use Rattle.networks.specs.Rounds.{turned};
 ghost use Rattle.des.specs.Keys.{round_words};
-ghost use Rattle.des.specs.Triple.{tdea, in_network, key_at};
+ghost use Rattle.des.specs.Networks.{networks_in};
+ghost use Rattle.des.specs.Triple.{tdea, key_at};
+ghost use Rattle.des.specs.internal.Sealing.{enciphering, in_network, sealing_three};
 
 use crate::cipher::Network;
 use crate::initial::Initial;
@@ -73,6 +75,9 @@ pub fn ede2(keys: &[u8; 16]) -> TripleDes
 
 impl Cipher for TripleDes {
     ghost map = { sealing_three };
+
+    // the three networks change their order, and each is turned: its round words are reversed, and its function's values inverted
+    ghost turns = { λ old new. networks_in new ≡ reverse (map turned (networks_in old)) };
 
     fn seal(&self, block: u64) -> u64 {
         self.layers.seal(block)

@@ -57,5 +57,5 @@ pub(crate) fn key_schedule(key: &[u8; 16], cycles: Cycles) -> Schedule<XteaRound
         words.push(first_word(key, cycle));
         words.push(second_word(key, cycle));
     }
-    Schedule::from(words)
+    Schedule::new(words).unwrap()
 }

@@ -1,7 +1,7 @@
 -- `words_from` meets its contract. Assumes nothing.
 use Rattle.std.proofs.Common.{[], ◌∷◌, map, sym, ap, ◌∙◌, arith, length}
 use Rattle.std.proofs.lemmas.List.{map-append}
-use Rattle.des.specs.Spread.{word_of}
+use Rattle.des.specs.KeptWords.{word_of}
 use Rattle.des.proofs.Parts.{with_none, with_more, with_all}
 use Rattle.des.proofs.keys.words_from.Goals as goal
 
@@ -27,6 +27,6 @@ loop-places-preserved c =
 
 pub returns : goal.returns
 returns c =
-    c.from.ensures
+    c.schedule.ensures
     ∙ sym (with_all (map word_of c.loop-places.kept.items) c.args.shifts.now c.loop-places.left c.loop-places.right c.loop-places.places-index (omega (arith, c.told-shifts)))
     ∙ c.loop-places.invariant.words

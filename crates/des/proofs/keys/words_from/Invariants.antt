@@ -1,7 +1,7 @@
 -- What the loop of `words_from` keeps. Assumes nothing.
 use Rattle.std.proofs.Common.{◌≡◌, ◌/◌, ◌%◌, ◌<◌, ◌^◌, length, map}
 use Rattle.des.specs.Keys.{words_from}
-use Rattle.des.specs.Spread.{word_of}
+use Rattle.des.specs.KeptWords.{word_of}
 use Rattle.des.proofs.Parts.{with_rest}
 use Rattle.des.proofs.keys.words_from.Given as goal
 

@@ -3,8 +3,8 @@ use Rattle.std.proofs.Common.{sym, subst, ap, ◌∙◌}
 use Rattle.std.specs.Int.{from_be_bytes, w64}
 use Rattle.ciphers.specs.Blocks.{feistel}
 use Rattle.ciphers.specs.Maps.{SameMap, in_turn}
-use Rattle.des.specs.Sealing.{network_of}
-use Rattle.des.specs.Triple.{in_network}
+use Rattle.des.specs.Networks.{network_of}
+use Rattle.des.specs.internal.Sealing.{in_network}
 use Rattle.des.proofs.Three.{sealed_three}
 use Rattle.des.proofs.triple.under.Goals as goal
 
@@ -18,8 +18,8 @@ returns c =
     sealed_three _ _ _ _ _ one two three
     outer.order
     (ap (λ p. p.reversed) outer.second ∙ inner.order)
-    (ap (λ p. p.inverted) outer.first ∙ c.new.ensures)
-    (ap (λ p. p.second.inverted) outer.second ∙ ap (λ p. p.inverted) inner.second ∙ c.inverse.ensures)
+    (ap (λ p. p.inverted) outer.first ∙ c.new.ensures.direction)
+    (ap (λ p. p.second.inverted) outer.second ∙ ap (λ p. p.inverted) inner.second ∙ c.inverse.ensures.direction)
     (subst
     (λ e. SameMap (in_turn (feistel (network_of e.first.inverted e.first.schedule)) (feistel (network_of e.second.inverted e.second.schedule)) (feistel (network_of e.third.inverted e.third.schedule))) (in_network one two three))
     (sym (ap (λ p. p.first) outer.second ∙ inner.first))

@@ -1,27 +1,27 @@
--- The maps that values stand for. Assumes nothing.
-use Rattle.std.specs.Prelude.{ℕ, Bool, false, List, bit_xor}
-use Rattle.networks.specs.Rounds.{Network}
+-- How the maps of DES and triple DES are made of their layers. Assumes nothing.
+use Rattle.std.specs.Prelude.{ℕ, false, List, reverse}
 use Rattle.ciphers.specs.Blocks.{feistel}
-use Rattle.ciphers.specs.Maps.{composed, in_turn}
-use Rattle.ciphers.specs.Permutations.{permuted_by}
+use Rattle.ciphers.specs.Maps.{in_turn}
+use Rattle.ciphers.specs.internal.Sealing.{composed, permuted_by}
 use Rattle.des.specs.declared.cipher.Des.{Des}
 use Rattle.des.specs.declared.triple.TripleDes.{TripleDes}
-use Rattle.des.specs.Des.{f}
+use Rattle.des.specs.Keys.{round_words}
+use Rattle.des.specs.Networks.{network_in, network_of}
 use Rattle.des.specs.Tables.{initial}
-
--- DES's network of some round words, turned or not: its round function over xor
-abbrev pub network_of : Bool → List ℕ → Network ℕ
-network_of turned words = record { joined = bit_xor; inverted = λ x. x; function = f; inverting = turned; words = words }
 
 -- the network that enciphers, between the permutations, with these round words
 abbrev pub enciphering : List ℕ → ℕ → ℕ
 enciphering words = feistel (network_of false words)
 
+-- triple DES between the permutations
+unfoldable pub in_network : ℕ → ℕ → ℕ → ℕ → ℕ
+in_network first second third = in_turn (enciphering (round_words first)) (enciphering (reverse (round_words second))) (enciphering (round_words third))
+
 -- a permutation, the network and a permutation, or the reverse order once they are turned
 abbrev pub sealing : Des → ℕ → ℕ
 sealing d =
     composed d.layers.reversed (permuted_by d.layers.first.inverted initial)
-    (composed d.layers.second.reversed (feistel (network_of d.layers.second.first.inverted d.layers.second.first.schedule)) (permuted_by d.layers.second.second.inverted initial))
+    (composed d.layers.second.reversed (feistel (network_in d)) (permuted_by d.layers.second.second.inverted initial))
 
 -- the same with three networks in turn
 abbrev pub sealing_three : TripleDes → ℕ → ℕ

@@ -1,4 +1,4 @@
--- Bits of a block that change places, as the faster permutations exchange them. No public clause cites it, so nothing here need be believed. Assumes nothing.
+-- Bits of a block that change places, as the faster permutations exchange them. Assumes nothing.
 use Rattle.std.specs.Prelude.{ℕ, ◌-◌, ◌*◌, ◌/◌, ◌%◌, ◌^◌, bit_and, bit_or, bit_xor}
 
 -- all bits but those that a mask names and those that many places above them

@@ -1,8 +1,8 @@
--- The key schedule by tables and exchanges: what the faster key schedule computes. No public clause cites it, so nothing here need be believed. Assumes nothing.
+-- The key schedule by tables and exchanges: what the faster key schedule computes. Assumes nothing.
 use Rattle.std.specs.Prelude.{ℕ, ◌+◌, ◌*◌, ◌/◌, ◌%◌, ◌^◌, List, ◌∷◌, map, bit_xor}
 use Rattle.std.specs.List.{flat_map, fold, range_with_len}
 use Rattle.selections.specs.Selections.{picked}
-use Rattle.des.specs.Spread.{boxes}
+use Rattle.des.specs.internal.Spread.{boxes}
 use Rattle.des.specs.Tables.{choice_2}
 
 -- a round word as the boxes take it. A place of 0 names no bit

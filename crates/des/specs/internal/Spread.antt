@@ -1,11 +1,8 @@
--- Halves and round words as the boxes take them: eight groups of six bits, each of them in a byte. No public clause cites it, so nothing here need be believed. Assumes nothing.
+-- Halves as the boxes take them: eight groups of six bits, each of them in a byte. Assumes nothing.
 use Rattle.std.specs.Prelude.{◌≡◌, ℕ, ◌+◌, ◌-◌, ◌*◌, ◌/◌, ◌%◌, List, [], ◌∷◌, map, bit_and}
 use Rattle.std.specs.List.{flat_map, range_with_len}
 use Rattle.selections.specs.Selections.{picked}
-
--- the byte in which box i + 1 has its group, counted from the least significant: boxes 1, 3, 5, 7, and then boxes 2, 4, 6, 8
-abbrev pub byte_of : ℕ → ℕ
-byte_of i = (7 - i) / 2 + 4 * (1 - i % 2)
+use Rattle.des.specs.KeptWords.{byte_of}
 
 -- the boxes in the order of their bytes, from the most significant on
 abbrev pub boxes : List ℕ
@@ -24,13 +21,6 @@ half_table = flat_map (λ i. map (λ j. 8 * (7 - byte_of i) + 4 + j) (range_with
 
 unfoldable pub half_of : ℕ → ℕ
 half_of groups = picked 64 half_table groups
-
--- the word of 48 bits that they are, group by group
-abbrev pub word_table : List ℕ
-word_table = flat_map (λ i. map (λ j. 8 * (7 - byte_of i) + 3 + j) (range_with_len 0 6)) (range_with_len 0 8)
-
-unfoldable pub word_of : ℕ → ℕ
-word_of groups = picked 64 word_table groups
 
 -- nothing but groups
 abbrev pub Groups : ℕ → Type 0

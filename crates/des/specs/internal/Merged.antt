@@ -1,10 +1,10 @@
--- Each box, P and the next round's E as one table: what the faster round function computes. No public clause cites it, so nothing here need be believed. Assumes nothing.
+-- Each box, P and the next round's E as one table: what the faster round function computes. Assumes nothing.
 use Rattle.std.specs.Prelude.{ℕ, ◌-◌, ◌*◌, ◌/◌, ◌%◌, ◌^◌, List, map, bit_xor}
 use Rattle.std.specs.List.{fold, range_with_len}
 use Rattle.selections.specs.Selections.{picked}
 use Rattle.des.specs.Boxes.{boxed}
 use Rattle.des.specs.Des.{group}
-use Rattle.des.specs.Spread.{spread}
+use Rattle.des.specs.internal.Spread.{spread}
 use Rattle.des.specs.Tables.{expansion, permutation}
 
 -- what P makes of the four bits of box i + 1, in their place

@@ -1,0 +1,5 @@
+pub mod Expansion
+pub mod Merged
+pub mod Sealing
+pub mod Spread
+pub mod Swaps
