@@ -6,8 +6,9 @@ use Rattle.networks.specs.Halves.{Words, swapped, halves_of, block_of}
 use Rattle.networks.specs.Rounds.{Network, round, rounds}
 use Rattle.networks.proofs.Splits.{halves_block, halves_fit}
 use Rattle.ciphers.specs.Blocks.{feistel, halves_swapped}
-use Rattle.ciphers.specs.Maps.{SameMap, composed}
-use Rattle.xtea.specs.Sealing.{network_of}
+use Rattle.ciphers.specs.Maps.{SameMap}
+use Rattle.ciphers.specs.internal.Sealing.{composed}
+use Rattle.xtea.specs.Networks.{network_of}
 use Rattle.xtea.specs.Xtea.{first_word, second_word, cycle, cycled, words_of, xtea}
 
 -- a network that has not been turned

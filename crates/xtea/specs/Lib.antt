@@ -1,2 +1,3 @@
-pub mod Sealing
+pub mod Networks
 pub mod Xtea
+pub mod internal

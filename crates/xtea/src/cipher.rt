@@ -1,7 +1,9 @@
 // XTEA as a cipher: a Feistel network of two rounds for each cycle, and then the halves swapped.
-ghost use Rattle.std.specs.Prelude.{◌≡◌};
+ghost use Rattle.std.specs.Prelude.{◌≡◌, false};
+ghost use Rattle.networks.specs.Rounds.{turned};
 ghost use Rattle.ciphers.specs.Maps.{SameMap};
-ghost use Rattle.xtea.specs.Sealing.{sealing};
+ghost use Rattle.xtea.specs.Networks.{network_in, network_of};
+ghost use Rattle.xtea.specs.internal.Sealing.{sealing};
 ghost use Rattle.xtea.specs.Xtea.{words_of, xtea};
 
 use crate::cycles::Cycles;
@@ -19,8 +21,8 @@ pub struct Xtea {
 impl Xtea {
     #[tactic(auto, using(crate::proofs::Cycling::sealed_new))]
     pub fn new(key: &[u8; 16], cycles: Cycles) -> Xtea
-        ensures words { result.layers.first.schedule ≡ words_of key.now cycles }
-        ensures map { SameMap (sealing result) (xtea key.now cycles) }
+        ensures network { network_in result ≡ network_of false (words_of key.now cycles) }
+        ensures map { SameMap (⟦<Xtea as Cipher>⟧.map result) (xtea key.now cycles) }
     {
         let rounds = Feistel::new(XteaRound, key_schedule(key, cycles));
         Xtea {
@@ -31,6 +33,9 @@ impl Xtea {
 
 impl Cipher for Xtea {
     ghost map = { sealing };
+
+    // the network is turned: its round words are reversed, and its function's values inverted
+    ghost turns = { λ old new. network_in new ≡ turned (network_in old) };
 
     fn seal(&self, block: u64) -> u64 {
         self.layers.seal(block)

@@ -1,9 +1,7 @@
--- The map that an Xtea value stands for. Assumes nothing.
+-- The network in a value of XTEA. Assumes nothing.
 use Rattle.std.specs.Prelude.{ℕ, ◌^◌, Bool, List}
 use Rattle.groups.specs.Sums.{sum, negative}
 use Rattle.networks.specs.Rounds.{Network}
-use Rattle.ciphers.specs.Blocks.{feistel, halves_swapped}
-use Rattle.ciphers.specs.Maps.{composed}
 use Rattle.xtea.specs.declared.cipher.Xtea.{Xtea}
 use Rattle.xtea.specs.Xtea.{mixed}
 
@@ -12,9 +10,5 @@ abbrev pub network_of : Bool → List ℕ → Network ℕ
 network_of turned words = record { joined = sum (2 ^ 32); inverted = negative (2 ^ 32); function = mixed; inverting = turned; words = words }
 
 -- the network in a value
-abbrev pub rounding : Xtea → Network ℕ
-rounding x = network_of x.layers.first.inverted x.layers.first.schedule
-
--- the network and then the swap of halves, or the other way round once it is turned
-abbrev pub sealing : Xtea → ℕ → ℕ
-sealing x = composed x.layers.reversed (feistel (rounding x)) halves_swapped
+abbrev pub network_in : Xtea → Network ℕ
+network_in x = network_of x.layers.first.inverted x.layers.first.schedule
