@@ -19,6 +19,7 @@ impl<C: Cipher> Ede<C> {
     pub fn new(first: C, mut second: C, third: C) -> Self
         ensures first { result.first ≡ first }
         ensures second { Inverse (C.Cipher.map second) (C.Cipher.map result.second) }
+        ensures turned { C.Cipher.turns second result.second }
         ensures third { result.third ≡ third }
         ensures map { (g : ℕ → ℕ) → Inverse (C.Cipher.map second) g → (b : ℕ) → C.Cipher.map first b < 2 ^ 64 →
             ⟦<Self as Cipher>⟧.map result b ≡ in_turn (C.Cipher.map first) g (C.Cipher.map third) b }

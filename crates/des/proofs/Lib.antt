@@ -5,6 +5,7 @@ pub mod Ciphering
 pub mod Complement
 pub mod Deciphering
 pub mod Eighths
+pub mod Layers
 pub mod Merged
 pub mod Ones
 pub mod Parts

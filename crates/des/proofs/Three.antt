@@ -18,10 +18,9 @@ use Rattle.des.proofs.Deciphering.{last_first}
 use Rattle.des.specs.Des.{through}
 use Rattle.des.specs.Keys.{round_words}
 use Rattle.des.specs.Networks.{network_of}
-use Rattle.des.specs.internal.Sealing.{enciphering}
 use Rattle.des.specs.Tables.{initial, final}
 use Rattle.des.specs.Triple.{tdea}
-use Rattle.des.specs.internal.Sealing.{in_network}
+use Rattle.des.specs.internal.Between.{enciphering, in_network}
 
 -- a network and the one with the round words in the reverse order
 rounds_back : (ks : List ℕ) → Inverse (enciphering ks) (enciphering (reverse ks))

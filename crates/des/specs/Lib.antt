@@ -1,5 +1,6 @@
 pub mod Boxes
 pub mod Des
+pub mod Held
 pub mod Keys
 pub mod KeptWords
 pub mod Networks

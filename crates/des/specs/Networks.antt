@@ -1,20 +1,21 @@
--- The networks in the values of DES and triple DES. Assumes nothing.
-use Rattle.std.specs.Prelude.{ℕ, Bool, List, [], ◌∷◌, bit_xor}
-use Rattle.networks.specs.Rounds.{Network}
-use Rattle.des.specs.declared.cipher.Des.{Des}
-use Rattle.des.specs.declared.triple.TripleDes.{TripleDes}
+-- DES and triple DES as networks. Assumes nothing.
+use Rattle.std.specs.Prelude.{ℕ, Bool, false, List, [], ◌∷◌, bit_xor}
+use Rattle.std.specs.List.{fold}
+use Rattle.networks.specs.Rounds.{Network, turned}
+use Rattle.selections.specs.Selections.{picked}
+use Rattle.ciphers.specs.Blocks.{feistel}
 use Rattle.des.specs.Des.{f}
+use Rattle.des.specs.Keys.{round_words}
+use Rattle.des.specs.Tables.{initial, final}
 
 -- DES's network of some round words, turned or not: its round function over xor
 abbrev pub network_of : Bool → List ℕ → Network ℕ
-network_of turned words = record { joined = bit_xor; inverted = λ x. x; function = f; inverting = turned; words = words }
+network_of inverting words = record { joined = bit_xor; inverted = λ x. x; function = f; inverting = inverting; words = words }
 
--- the network in a value
-abbrev pub network_in : Des → Network ℕ
-network_in d = network_of d.layers.second.first.inverted d.layers.second.first.schedule
+-- the networks of three keys; the second is turned
+abbrev pub networks_of : ℕ → ℕ → ℕ → List (Network ℕ)
+networks_of first second third = network_of false (round_words first) ∷ turned (network_of false (round_words second)) ∷ network_of false (round_words third) ∷ []
 
--- the three networks in a value, in the order in which they seal
-abbrev pub networks_in : TripleDes → List (Network ℕ)
-networks_in t =
-    let three = t.layers.second.first in
-    network_of three.first.inverted three.first.schedule ∷ network_of three.second.inverted three.second.schedule ∷ network_of three.third.inverted three.third.schedule ∷ []
+-- IP, some networks one after another, and the inverse of IP
+unfoldable pub sealed_by : List (Network ℕ) → ℕ → ℕ
+sealed_by networks b = picked 64 final (fold (λ x N. feistel N x) (picked 64 initial b) networks)

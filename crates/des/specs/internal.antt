@@ -1,3 +1,4 @@
+pub mod Between
 pub mod Expansion
 pub mod Merged
 pub mod Sealing

@@ -1,12 +1,11 @@
 // DES as a cipher: the initial permutation, a Feistel network of sixteen rounds over xor, and the inverse permutation.
-ghost use Rattle.std.specs.Prelude.{◌≡◌, ℕ, false};
+ghost use Rattle.std.specs.Prelude.{◌≡◌, ℕ, [], ◌∷◌, false, not};
 ghost use Rattle.std.specs.Int.{from_be_bytes, w64};
 ghost use Rattle.networks.specs.Rounds.{turned};
 ghost use Rattle.ciphers.specs.Maps.{SameMap, Inverse};
 ghost use Rattle.des.specs.Des.{des, deciphered};
 ghost use Rattle.des.specs.Keys.{round_words, SameButEighths};
-ghost use Rattle.des.specs.Networks.{network_in, network_of};
-ghost use Rattle.des.specs.internal.Sealing.{sealing};
+ghost use Rattle.des.specs.Networks.{network_of, sealed_by};
 
 use crate::initial::Initial;
 use crate::keys::key_schedule;
@@ -20,9 +19,13 @@ pub(crate) type Network = Feistel<XorSpread, DesRound, 16>;
 #[derive(Drop)]
 pub struct Des {
     layers: Pair<BitPermutation<Initial>, Pair<Network, BitPermutation<Initial>>>,
+    // the layers are turned together
+    ghost together: { (layers.first.inverted ≡ layers.reversed) × (layers.second.reversed ≡ layers.reversed) × (layers.second.second.inverted ≡ not layers.reversed) },
 }
 
 impl Des {
+    ghost use Rattle.des.specs.Held.{network_in};
+
     #[tactic(auto, using(crate::proofs::Ciphering::sealed_new, crate::proofs::Deciphering::des_inverse, crate::proofs::Eighths::des_same))]
     pub fn new(key: &[u8; 8]) -> Des
         ensures network { network_in result ≡ network_of false (round_words (from_be_bytes w64 key.now)) }
@@ -40,14 +43,31 @@ impl Des {
     }
 }
 
+impl Des {
+    ghost use Rattle.des.specs.internal.Sealing.{sealing};
+
+    // What the layers make of a block. A part of its own, so that a wrong block is refused here, and not where a proof cites it.
+    fn layered(&self, block: u64) -> u64
+        ensures { result ≡ sealing self.now block }
+    {
+        self.layers.seal(block)
+    }
+}
+
 impl Cipher for Des {
+    ghost use Rattle.des.specs.Held.{network_in};
+    ghost use Rattle.des.specs.internal.Sealing.{sealing};
+
     ghost map = { sealing };
 
     // the network is turned: its round words are reversed, and its function's values inverted
     ghost turns = { λ old new. network_in new ≡ turned (network_in old) };
 
-    fn seal(&self, block: u64) -> u64 {
-        self.layers.seal(block)
+    fn seal(&self, block: u64) -> u64
+        ensures map { result ≡ ⟦<Self as Cipher>⟧.map self.now block }
+        ensures network { result ≡ sealed_by (network_in self.now ∷ []) block }
+    {
+        self.layered(block)
     }
 
     fn seal_four(&self, blocks: Four<u64>) -> Four<u64> {

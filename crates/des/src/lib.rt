@@ -10,6 +10,7 @@
 
 mod boxes;
 mod cipher;
+mod ede;
 mod initial;
 mod keys;
 mod opposites;
@@ -20,5 +21,6 @@ mod triple;
 
 pub use boxes::s_box;
 pub use cipher::Des;
+pub use ede::{ede2, ede3};
 pub use opposites::{Sealed, seal_both};
-pub use triple::{TripleDes, ede2, ede3};
+pub use triple::TripleDes;

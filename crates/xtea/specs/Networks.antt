@@ -1,7 +1,8 @@
--- The network in a value of XTEA. Assumes nothing.
-use Rattle.std.specs.Prelude.{ℕ, ◌^◌, Bool, List}
+-- XTEA as a network. Assumes nothing.
+use Rattle.std.specs.Prelude.{ℕ, ◌^◌, Bool, List, if◌then◌else◌}
 use Rattle.groups.specs.Sums.{sum, negative}
 use Rattle.networks.specs.Rounds.{Network}
+use Rattle.ciphers.specs.Blocks.{feistel, halves_swapped}
 use Rattle.xtea.specs.declared.cipher.Xtea.{Xtea}
 use Rattle.xtea.specs.Xtea.{mixed}
 
@@ -12,3 +13,7 @@ network_of turned words = record { joined = sum (2 ^ 32); inverted = negative (2
 -- the network in a value
 abbrev pub network_in : Xtea → Network ℕ
 network_in x = network_of x.layers.first.inverted x.layers.first.schedule
+
+-- a network and then the swap of halves; where it is turned, the swap and then the network
+abbrev pub sealed_by : Network ℕ → ℕ → ℕ
+sealed_by N b = if N.inverting then feistel N (halves_swapped b) else halves_swapped (feistel N b)

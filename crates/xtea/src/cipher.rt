@@ -2,8 +2,6 @@
 ghost use Rattle.std.specs.Prelude.{◌≡◌, false};
 ghost use Rattle.networks.specs.Rounds.{turned};
 ghost use Rattle.ciphers.specs.Maps.{SameMap};
-ghost use Rattle.xtea.specs.Networks.{network_in, network_of};
-ghost use Rattle.xtea.specs.internal.Sealing.{sealing};
 ghost use Rattle.xtea.specs.Xtea.{words_of, xtea};
 
 use crate::cycles::Cycles;
@@ -16,9 +14,13 @@ use networks::Feistel;
 #[derive(Drop)]
 pub struct Xtea {
     layers: Pair<Feistel<Sum32, XteaRound, 64>, SwapHalves>,
+    // the pair is turned where its network is
+    ghost together: { layers.reversed ≡ layers.first.inverted },
 }
 
 impl Xtea {
+    ghost use Rattle.xtea.specs.Networks.{network_in, network_of};
+
     #[tactic(auto, using(crate::proofs::Cycling::sealed_new))]
     pub fn new(key: &[u8; 16], cycles: Cycles) -> Xtea
         ensures network { network_in result ≡ network_of false (words_of key.now cycles) }
@@ -32,12 +34,18 @@ impl Xtea {
 }
 
 impl Cipher for Xtea {
+    ghost use Rattle.xtea.specs.Networks.{network_in, sealed_by};
+    ghost use Rattle.xtea.specs.internal.Sealing.{sealing};
+
     ghost map = { sealing };
 
     // the network is turned: its round words are reversed, and its function's values inverted
     ghost turns = { λ old new. network_in new ≡ turned (network_in old) };
 
-    fn seal(&self, block: u64) -> u64 {
+    fn seal(&self, block: u64) -> u64
+        ensures map { result ≡ ⟦<Self as Cipher>⟧.map self.now block }
+        ensures network { result ≡ sealed_by (network_in self.now) block }
+    {
         self.layers.seal(block)
     }
 

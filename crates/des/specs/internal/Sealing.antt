@@ -1,21 +1,13 @@
 -- How the maps of DES and triple DES are made of their layers. Assumes nothing.
-use Rattle.std.specs.Prelude.{ℕ, false, List, reverse}
+use Rattle.std.specs.Prelude.{ℕ}
 use Rattle.ciphers.specs.Blocks.{feistel}
 use Rattle.ciphers.specs.Maps.{in_turn}
 use Rattle.ciphers.specs.internal.Sealing.{composed, permuted_by}
 use Rattle.des.specs.declared.cipher.Des.{Des}
 use Rattle.des.specs.declared.triple.TripleDes.{TripleDes}
-use Rattle.des.specs.Keys.{round_words}
-use Rattle.des.specs.Networks.{network_in, network_of}
+use Rattle.des.specs.Held.{network_in}
+use Rattle.des.specs.Networks.{network_of}
 use Rattle.des.specs.Tables.{initial}
-
--- the network that enciphers, between the permutations, with these round words
-abbrev pub enciphering : List ℕ → ℕ → ℕ
-enciphering words = feistel (network_of false words)
-
--- triple DES between the permutations
-unfoldable pub in_network : ℕ → ℕ → ℕ → ℕ → ℕ
-in_network first second third = in_turn (enciphering (round_words first)) (enciphering (reverse (round_words second))) (enciphering (round_words third))
 
 -- a permutation, the network and a permutation, or the reverse order once they are turned
 abbrev pub sealing : Des → ℕ → ℕ

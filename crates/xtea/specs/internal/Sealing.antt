@@ -5,6 +5,6 @@ use Rattle.ciphers.specs.internal.Sealing.{composed}
 use Rattle.xtea.specs.declared.cipher.Xtea.{Xtea}
 use Rattle.xtea.specs.Networks.{network_in}
 
--- the network and then the swap of halves, or the other way round once it is turned
+-- the network and then the swap of halves, or the other way round where the pair is reversed
 abbrev pub sealing : Xtea → ℕ → ℕ
 sealing x = composed x.layers.reversed (feistel (network_in x)) halves_swapped
