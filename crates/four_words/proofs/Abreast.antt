@@ -3,9 +3,9 @@ use Rattle.std.proofs.Common.{◌≡◌, List, [], ◌∷◌, refl, ap}
 use Rattle.std.specs.List.{fold}
 use Rattle.four_words.specs.declared.two.Two.{Two}
 use Rattle.four_words.specs.declared.words.Words.{Words}
-use Rattle.four_words.specs.Abreast.{both_of, ran_abreast}
 use Rattle.four_words.specs.Joining.{joined}
 use Rattle.four_words.specs.Passing.{Network, ran, round}
+use Rattle.four_words.specs.internal.Abreast.{both_of, ran_abreast}
 
 -- a fold that takes a step with both is a fold of each
 both_fold : {X A : Type 0} (f : A → X → A) (two : Two A) (xs : List X) → fold (λ s x. both_of (λ a. f a x) s) two xs ≡ both_of (λ a. fold f a xs) two

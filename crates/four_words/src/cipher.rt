@@ -14,7 +14,11 @@ use groups::Group;
 impl<O: Group<Word = u16>, I: Group<Word = u16>, B: MixingBox> Cipher for FourWord<O, I, B> {
     ghost map = { λ n. four_word (network O.Group I.Group B.MixingBox n) };
 
-    fn seal(&self, block: u64) -> u64 {
+    // The block of what the network makes of this block's words. It tells too what the map is.
+    fn seal(&self, block: u64) -> u64
+        ensures map { result ≡ ⟦<Self as Cipher>⟧.map self.now block }
+        ensures network { result ≡ four_word (network O.Group I.Group B.MixingBox self.now) block }
+    {
         self.run(block.into()).into()
     }
 
@@ -33,9 +37,10 @@ impl<O: Group<Word = u16>, I: Group<Word = u16>, B: MixingBox> Cipher for FourWo
         }
     }
 
+    // Becomes the inverse cipher, and its network the turned network.
     #[tactic(auto, using(crate::proofs::Splitting::inverse_blocks))]
     fn turn(&mut self)
-        ensures inverse { Inverse (four_word (network O.Group I.Group B.MixingBox self.old)) (four_word (network O.Group I.Group B.MixingBox self.new)) }
+        ensures inverse { Inverse (⟦<Self as Cipher>⟧.map self.old) (⟦<Self as Cipher>⟧.map self.new) }
         ensures network { network O.Group I.Group B.MixingBox self.new ≡ turned (network O.Group I.Group B.MixingBox self.old) }
     {
         self.turn();

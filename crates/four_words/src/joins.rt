@@ -7,10 +7,12 @@ use crate::two::Two;
 use crate::words::Words;
 use groups::Group;
 
-// Words 1 and 4 are joined in the outer group, words 2 and 3 in the inner.
+// Words 1 and 4 are joined in the outer group, words 2 and 3 in the inner. It tells too that the words have 16 bits, as every
+// value of their type does.
 #[inline(always)]
 pub(crate) fn join<O: Group<Word = u16>, I: Group<Word = u16>>(words: Words, with: Words) -> Words
-    ensures { result ≡ joined (both O.Group I.Group) words with }
+    ensures value { result ≡ joined (both O.Group I.Group) words with }
+    ensures fits { Fit words }
 {
     Words {
         first: O::join(words.first, with.first),

@@ -4,8 +4,8 @@
 // Promises, for every two lawful groups, mixing box, number of rounds from 1 to 8 and choice of round words:
 // `FourWord::run` answers what the definition of the network says, and `run_four` the same for each of four; `turn` gives
 // each round the words that its definition names, and the turned network is the inverse; undoing the rounds and running the
-// turned network make the same of any four words (`undo`, `ways_back`). Every such network is a cipher, with word 1 most
-// significant. No call refuses.
+// turned network make the same of any four words, and the network makes these words of it again (`undo`, `ways_back`). Every
+// such network is a cipher, with word 1 most significant, whose map is that of the network. No call refuses.
 #![tactic(auto)]
 
 mod boxes;

@@ -2,13 +2,13 @@
 ghost use Rattle.std.specs.Prelude.{◌≡◌};
 ghost use Rattle.networks.specs.Fours.{each};
 ghost use Rattle.networks.specs.Inverses.{Inverses};
-ghost use Rattle.four_words.specs.Abreast.{both_of, ran_abreast};
 ghost use Rattle.four_words.specs.Joining.{both};
 ghost use Rattle.four_words.specs.Keying.{KeyFits};
 ghost use Rattle.four_words.specs.Networks.{network};
 ghost use Rattle.four_words.specs.Passing.{added, mixed, ran, round, turned, unran, unround};
 ghost use Rattle.four_words.specs.Quarters.{Fit, exchanged};
 ghost use Rattle.four_words.specs.Turning.{TurnedWords};
+ghost use Rattle.four_words.specs.internal.Abreast.{both_of, ran_abreast};
 
 use crate::boxes::MixingBox;
 use crate::joins::{inverses, join};
@@ -74,7 +74,8 @@ impl<O: Group<Word = u16>, I: Group<Word = u16>, B: MixingBox> FourWord<O, I, B>
 
     #[inline(always)]
     fn round(&self, with: &RoundWords, words: Words) -> Words
-        ensures { result ≡ round (network O.Group I.Group B.MixingBox self.now) with.now words }
+        ensures value { result ≡ round (network O.Group I.Group B.MixingBox self.now) with.now words }
+        ensures fits { Fit words }
     {
         self.mix(with.mixing, join::<O, I>(words, with.joins))
     }
@@ -94,9 +95,11 @@ impl<O: Group<Word = u16>, I: Group<Word = u16>, B: MixingBox> FourWord<O, I, B>
     }
 
     // The rounds, and then the closing words. A part of its own, as are `undone` and `reverse`, so that a wrong step is
-    // refused where it is taken, and not where a proof cites it.
+    // refused where it is taken, and not where a proof cites it. It tells too that the words which it is given have 16 bits,
+    // and so have those that it joins.
     fn ran(&self, words: Words) -> Words
         ensures value { result ≡ ran (network O.Group I.Group B.MixingBox self.now) words }
+        ensures words { Fit words }
         ensures fits { KeyFits self.now.key }
     {
         let first = Unpacked::new(self.round(self.key.first(), words));
@@ -153,6 +156,7 @@ impl<O: Group<Word = u16>, I: Group<Word = u16>, B: MixingBox> FourWord<O, I, B>
     // The closing words taken back, and then the rounds, the last one first.
     pub(crate) fn undone(&self, words: Words) -> Words
         ensures value { result ≡ unran (network O.Group I.Group B.MixingBox self.now) words }
+        ensures words { Fit words }
         ensures fits { KeyFits self.now.key }
     {
         let last = join::<O, I>(words, inverses::<O, I>(*self.key.closing()));
@@ -168,7 +172,7 @@ impl<O: Group<Word = u16>, I: Group<Word = u16>, B: MixingBox> FourWord<O, I, B>
     // What the network makes of four words. The turned network takes it back.
     pub fn run(&self, words: Words) -> Words
         ensures value { result ≡ ran (network O.Group I.Group B.MixingBox self.now) words }
-        ensures back { Fit words → ran (turned (network O.Group I.Group B.MixingBox self.now)) result ≡ words }
+        ensures back { ran (turned (network O.Group I.Group B.MixingBox self.now)) result ≡ words }
     {
         self.ran(words)
     }
@@ -193,11 +197,12 @@ impl<O: Group<Word = u16>, I: Group<Word = u16>, B: MixingBox> FourWord<O, I, B>
         }
     }
 
-    // The way back that undoes the rounds. It makes of any words what the turned network makes of them.
+    // The way back that undoes the rounds, to what the network makes the words of. It makes of any words what the turned
+    // network makes of them.
     pub fn undo(&self, words: Words) -> Words
         ensures value { result ≡ unran (network O.Group I.Group B.MixingBox self.now) words }
         ensures turned { result ≡ ran (turned (network O.Group I.Group B.MixingBox self.now)) words }
-        ensures back { Fit words → ran (network O.Group I.Group B.MixingBox self.now) result ≡ words }
+        ensures back { ran (network O.Group I.Group B.MixingBox self.now) result ≡ words }
     {
         self.undone(words)
     }
@@ -220,12 +225,13 @@ impl<O: Group<Word = u16>, I: Group<Word = u16>, B: MixingBox> FourWord<O, I, B>
         self.reverse();
     }
 
-    // Both ways back of any four words, the rounds undone and the turned network run: they agree.
-    // The network is as it was afterwards.
+    // Both ways back of any four words, the rounds undone and the turned network run: they agree, and lead to what the network
+    // makes the words of. The network is as it was afterwards.
     pub fn ways_back(&mut self, words: Words) -> WaysBack<Words>
         ensures undone { result.undone ≡ unran (network O.Group I.Group B.MixingBox self.old) words }
         ensures turned { result.turned ≡ ran (turned (network O.Group I.Group B.MixingBox self.old)) words }
         ensures agree { result.undone ≡ result.turned }
+        ensures back { ran (network O.Group I.Group B.MixingBox self.old) result.undone ≡ words }
         ensures same { network O.Group I.Group B.MixingBox self.new ≡ network O.Group I.Group B.MixingBox self.old }
     {
         let undone = self.undo(words);

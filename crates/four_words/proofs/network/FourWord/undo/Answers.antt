@@ -12,5 +12,5 @@ returns-clause-turned g c = c.undone.ensures.value ∙ ways_back (network g.O.Gr
 pub returns-clause-back : goal.returns-clause-back
 returns-clause-back g c =
     let N = network g.O.Group g.I.Group g.B.MixingBox c.args.self.now in
-    λ p. ap (ran N) c.undone.ensures.value
-    ∙ (undoes N g.met.O.Group.lawful g.met.I.Group.lawful (g.met.B.MixingBox.within c.args.self.now.mixing) c.undone.ensures.fits).forth c.args.words p
+    ap (ran N) c.undone.ensures.value
+    ∙ (undoes N g.met.O.Group.lawful g.met.I.Group.lawful (g.met.B.MixingBox.within c.args.self.now.mixing) c.undone.ensures.fits).forth c.args.words c.undone.ensures.words

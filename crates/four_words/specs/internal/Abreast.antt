@@ -1,4 +1,4 @@
--- Two of a kind worked on side by side: how the faster run of four blocks goes. No public clause cites it, so nothing here need be believed. Assumes nothing.
+-- Two of a kind worked on side by side: how the faster run of four blocks goes. Assumes nothing.
 use Rattle.std.specs.List.{fold}
 use Rattle.four_words.specs.declared.two.Two.{Two}
 use Rattle.four_words.specs.declared.words.Words.{Words}
