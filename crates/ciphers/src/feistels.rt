@@ -38,7 +38,8 @@ impl<W: HalfWord, G: Group<Word = W>, F: RoundFunction<Half = W>, const N: usize
     ghost turns = { λ old new. network G.Group F.RoundFunction new ≡ turned (network G.Group F.RoundFunction old) };
 
     fn seal(&self, block: u64) -> u64
-        ensures { result ≡ feistel_of W.HalfWord.word_of W.HalfWord.number_of (network G.Group F.RoundFunction self.now) block }
+        ensures map { result ≡ ⟦<Self as Cipher>⟧.map self.now block }
+        ensures network { result ≡ feistel_of W.HalfWord.word_of W.HalfWord.number_of (network G.Group F.RoundFunction self.now) block }
     {
         join(self.run(split(block)))
     }

@@ -13,7 +13,8 @@ impl Cipher for SwapHalves {
     ghost map = { λ _. halves_swapped };
 
     fn seal(&self, block: u64) -> u64
-        ensures { result ≡ halves_swapped block }
+        ensures map { result ≡ ⟦<Self as Cipher>⟧.map self.now block }
+        ensures halves { result ≡ halves_swapped block }
     {
         Halves::from(block).swap().into()
     }

@@ -1,6 +1,5 @@
 // Every four-word network is a cipher.
 ghost use Rattle.std.specs.Prelude.{◌≡◌};
-ghost use Rattle.ciphers.specs.Maps.{Inverse};
 ghost use Rattle.four_words.specs.Keying.{KeyFits};
 ghost use Rattle.four_words.specs.Networks.{network};
 ghost use Rattle.four_words.specs.Passing.{four_word, turned, unran};
@@ -14,7 +13,10 @@ use groups::Group;
 impl<O: Group<Word = u16>, I: Group<Word = u16>, B: MixingBox> Cipher for FourWord<O, I, B> {
     ghost map = { λ n. four_word (network O.Group I.Group B.MixingBox n) };
 
-    // The block of what the network makes of this block's words. It tells too what the map is.
+    // the network is turned: its words become those of the turned network
+    ghost turns = { λ old new. network O.Group I.Group B.MixingBox new ≡ turned (network O.Group I.Group B.MixingBox old) };
+
+    // The block of what the network makes of this block's words.
     fn seal(&self, block: u64) -> u64
         ensures map { result ≡ ⟦<Self as Cipher>⟧.map self.now block }
         ensures network { result ≡ four_word (network O.Group I.Group B.MixingBox self.now) block }
@@ -37,12 +39,8 @@ impl<O: Group<Word = u16>, I: Group<Word = u16>, B: MixingBox> Cipher for FourWo
         }
     }
 
-    // Becomes the inverse cipher, and its network the turned network.
     #[tactic(auto, using(crate::proofs::Splitting::inverse_blocks))]
-    fn turn(&mut self)
-        ensures inverse { Inverse (⟦<Self as Cipher>⟧.map self.old) (⟦<Self as Cipher>⟧.map self.new) }
-        ensures network { network O.Group I.Group B.MixingBox self.new ≡ turned (network O.Group I.Group B.MixingBox self.old) }
-    {
+    fn turn(&mut self) {
         self.turn();
     }
 }

@@ -12,7 +12,7 @@ use Rattle.four_words.specs.Quarters.{block_of, exchanged, words_of}
 use Rattle.four_words.proofs.Agreement.{later}
 use Rattle.idea.specs.Idea.{idea, output, round, rounds}
 use Rattle.idea.specs.Keys.{key_word, key_words}
-use Rattle.idea.specs.Sealing.{network_of}
+use Rattle.idea.specs.Networks.{network_of}
 
 -- over a list of the words, and a network that has them
 module _ (K : ℕ → ℕ) (ws : List ℕ) (same : (i : ℕ) → i < 52 → slice_index ws i ≡ K i) (key : Key) where

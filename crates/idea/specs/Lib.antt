@@ -1,4 +1,6 @@
+pub mod Held
 pub mod Idea
 pub mod Keys
 pub mod Mixing
-pub mod Sealing
+pub mod Networks
+pub mod internal

@@ -1,12 +1,13 @@
 // IDEA as a cipher: a four-word network over the product modulo 65,537 and the sum modulo 2^16.
 ghost use Rattle.std.specs.Prelude.{◌≡◌, ◌≤◌};
 ghost use Rattle.std.specs.Int.{from_be_bytes, w128};
-ghost use Rattle.ciphers.specs.Maps.{Inverse, SameMap};
+ghost use Rattle.ciphers.specs.Maps.{SameMap};
 ghost use Rattle.four_words.specs.Keying.{key_of};
-ghost use Rattle.four_words.specs.Turning.{turned_key};
+ghost use Rattle.four_words.specs.Passing.{four_word, turned};
+ghost use Rattle.idea.specs.Held.{network_in};
 ghost use Rattle.idea.specs.Idea.{idea};
 ghost use Rattle.idea.specs.Keys.{key_words};
-ghost use Rattle.idea.specs.Sealing.{groups, sealing};
+ghost use Rattle.idea.specs.Networks.{network_of};
 
 use crate::expansion::key_schedule;
 use crate::mixing::IdeaBox;
@@ -36,8 +37,8 @@ impl Idea {
     #[inline(never)]
     #[tactic(auto, using(crate::proofs::Passes::sealed_new))]
     pub fn new(key: &[u8; 16], rounds: Rounds) -> Idea
-        ensures words { result.network.key ≡ key_of rounds (key_words (from_be_bytes w128 key.now)) }
-        ensures map { SameMap (sealing result) (idea (from_be_bytes w128 key.now) rounds) }
+        ensures network { network_in result ≡ network_of (key_of rounds (key_words (from_be_bytes w128 key.now))) }
+        ensures map { SameMap (⟦<Idea as Cipher>⟧.map result) (idea (from_be_bytes w128 key.now) rounds) }
     {
         Idea {
             network: network(key, rounds),
@@ -46,16 +47,22 @@ impl Idea {
 
     // The words that are joined last, behind the rounds. Turning changes them.
     pub fn closing(&self) -> &Words
-        ensures { result.now ≡ self.now.network.key.closing }
+        ensures { result.now ≡ (network_in self.now).key.closing }
     {
         self.network.key().closing()
     }
 }
 
 impl Cipher for Idea {
-    ghost map = { sealing };
+    ghost map = { λ x. four_word (network_in x) };
 
-    fn seal(&self, block: u64) -> u64 {
+    // the network is turned: its words become those of the turned network
+    ghost turns = { λ old new. network_in new ≡ turned (network_in old) };
+
+    fn seal(&self, block: u64) -> u64
+        ensures map { result ≡ ⟦<Self as Cipher>⟧.map self.now block }
+        ensures network { result ≡ four_word (network_in self.now) block }
+    {
         self.network.seal(block)
     }
 
@@ -63,10 +70,7 @@ impl Cipher for Idea {
         self.network.seal_four(blocks)
     }
 
-    fn turn(&mut self)
-        ensures inverse { Inverse (sealing self.old) (sealing self.new) }
-        ensures words { self.new.network.key ≡ turned_key groups self.old.network.key }
-    {
+    fn turn(&mut self) {
         Cipher::turn(&mut self.network);
     }
 }

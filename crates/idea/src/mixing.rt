@@ -1,5 +1,6 @@
 // IDEA's mixing box: two products and two sums.
-ghost use Rattle.idea.specs.Mixing.{mixed, mixed_fits};
+ghost use Rattle.idea.specs.Mixing.{mixed};
+ghost use Rattle.idea.specs.internal.Fitting.{mixed_fits};
 
 use four_words::{BoxWords, Mixed, MixingBox};
 use groups::{Group, Sum16};

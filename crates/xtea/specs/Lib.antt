@@ -1,3 +1,4 @@
+pub mod Held
 pub mod Networks
 pub mod Xtea
 pub mod internal

@@ -2,6 +2,7 @@
 ghost use Rattle.std.specs.Prelude.{◌≡◌, false};
 ghost use Rattle.networks.specs.Rounds.{turned};
 ghost use Rattle.ciphers.specs.Maps.{SameMap};
+ghost use Rattle.xtea.specs.Networks.{network_of, sealed_by};
 ghost use Rattle.xtea.specs.Xtea.{words_of, xtea};
 
 use crate::cycles::Cycles;
@@ -19,7 +20,7 @@ pub struct Xtea {
 }
 
 impl Xtea {
-    ghost use Rattle.xtea.specs.Networks.{network_in, network_of};
+    ghost use Rattle.xtea.specs.Held.{network_in};
 
     #[tactic(auto, using(crate::proofs::Cycling::sealed_new))]
     pub fn new(key: &[u8; 16], cycles: Cycles) -> Xtea
@@ -34,7 +35,7 @@ impl Xtea {
 }
 
 impl Cipher for Xtea {
-    ghost use Rattle.xtea.specs.Networks.{network_in, sealed_by};
+    ghost use Rattle.xtea.specs.Held.{network_in};
     ghost use Rattle.xtea.specs.internal.Sealing.{sealing};
 
     ghost map = { sealing };
