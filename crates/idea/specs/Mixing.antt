@@ -3,7 +3,7 @@ use Rattle.std.specs.Prelude.{ℕ, ◌^◌, ◌<◌}
 use Rattle.std.proofs.Common.{arith}
 use Rattle.groups.specs.Sums.{sum}
 use Rattle.products.specs.Products.{product}
-use Rattle.products.specs.Residues.{product_fits}
+use Rattle.products.specs.internal.Residues.{product_fits}
 use Rattle.four_words.specs.declared.words.BoxWords.{BoxWords}
 use Rattle.four_words.specs.declared.words.Mixed.{Mixed}
 
