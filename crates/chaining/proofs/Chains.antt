@@ -8,7 +8,8 @@ use Rattle.std.proofs.lemmas.List.Edits.{length-between}
 use Rattle.std.proofs.lemmas.Slice.{overwrites, between_is, take-put_mid, drop-put_mid}
 use Rattle.chaining.specs.declared.direction.Direction.TheVariants.{Opening}
 use Rattle.chaining.specs.declared.direction.Direction.{Direction}
-use Rattle.chaining.specs.Runs.{Bytes, block, chained, sealed_of, Rewritten, chain_after, four_of, opened_four}
+use Rattle.chaining.specs.Runs.{Bytes, block, chained, sealed_of, Rewritten, chain_after}
+use Rattle.chaining.specs.internal.Fours.{four_of, opened_four}
 use Rattle.chaining.proofs.Bytes.{part_bytes, written_bytes}
 use Rattle.chaining.proofs.Few.{one, chain_one, four, chain_four}
 use Rattle.chaining.proofs.Joins.{joined, chain_joined}

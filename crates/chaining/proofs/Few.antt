@@ -4,7 +4,8 @@ use Rattle.std.specs.Int.{w64, from_be_bytes}
 use Rattle.std.proofs.lemmas.List.{take_all}
 use Rattle.chaining.specs.declared.direction.Direction.TheVariants.{Sealing, Opening}
 use Rattle.chaining.specs.declared.direction.Direction.{Direction}
-use Rattle.chaining.specs.Runs.{Bytes, block, before, chained, sealed_of, Rewritten, chain_after, four_of, opened_four}
+use Rattle.chaining.specs.Runs.{Bytes, block, before, chained, sealed_of, Rewritten, chain_after}
+use Rattle.chaining.specs.internal.Fours.{four_of, opened_four}
 
 -- eight bytes are a block
 only_block : (xs : List ℕ) → length xs ≡ 8 → block xs 0 ≡ from_be_bytes w64 xs

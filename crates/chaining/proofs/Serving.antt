@@ -3,7 +3,8 @@ use Rattle.std.proofs.Common.{◌≡◌, ℕ, ◌+◌, ◌<◌, List, [], ◌∷
 use Rattle.std.proofs.lemmas.List.{map-append, take_more, take_more_set, get_or-drop, drop-drop, drop-set-lt}
 use Rattle.chaining.specs.declared.calls.Call.{Call}
 use Rattle.chaining.specs.Benches.{State}
-use Rattle.chaining.specs.Sessions.{asked, Does, Exchange, Ran, last_of, ServedCall, Served}
+use Rattle.chaining.specs.Sessions.{asked, Does, Exchange, Ran, last_of, Served}
+use Rattle.chaining.specs.internal.OneCall.{ServedCall}
 
 ran_push : (s : State) (xs : List Exchange) (x : Exchange) → Ran s xs → Does (last_of s xs) x.brought x.answer x.left x.after → Ran s (xs ++ x ∷ [])
 unfolding Ran last_of

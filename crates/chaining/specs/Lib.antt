@@ -2,3 +2,4 @@ pub mod Benches
 pub mod Mirrors
 pub mod Runs
 pub mod Sessions
+pub mod internal

@@ -1,7 +1,6 @@
 -- Bytes as blocks of eight, and what chaining makes of them. Assumes nothing.
 use Rattle.std.specs.Prelude.{◌≡◌, ℕ, zero, suc, ◌+◌, ◌*◌, ◌/◌, ◌<◌, List, length, bit_xor, slice_index, slice_range}
 use Rattle.std.specs.Int.{w64, from_be_bytes}
-use Rattle.networks.specs.declared.fours.Four.{Four}
 use Rattle.chaining.specs.declared.direction.Direction.TheVariants.{Sealing, Opening}
 use Rattle.chaining.specs.declared.direction.Direction.{Direction}
 
@@ -38,16 +37,3 @@ pub record Rewritten (d : Direction) (S : ℕ → ℕ) (r : ℕ) (xs : List ℕ)
 -- the chain block after a run: its last sealed block, or r where it is empty
 abbrev pub chain_after : Direction → ℕ → List ℕ → List ℕ → ℕ
 chain_after d r xs ys = before r (sealed_of d xs ys) (length xs / 8)
-
--- the first four blocks
-abbrev pub four_of : List ℕ → Four ℕ
-four_of xs = record { first = block xs 0; second = block xs 1; third = block xs 2; fourth = block xs 3 }
-
--- what opening makes of four blocks, where p is the sealed block before them
-abbrev pub opened_four : (ℕ → ℕ) → ℕ → Four ℕ → Four ℕ
-opened_four S p bs = record {
-  first = chained Opening S p bs.first;
-  second = chained Opening S bs.first bs.second;
-  third = chained Opening S bs.second bs.third;
-  fourth = chained Opening S bs.third bs.fourth;
-}

@@ -46,13 +46,6 @@ answers calls = map (λ c. c.answer) calls
 abbrev pub earlier : List Call → List (Option Answer)
 earlier calls = map (λ c. c.earlier) calls
 
--- a bench went from s to t over one call, which was changed to what it left and answered
-pub record ServedCall (s : State) (call : Call) (served : Call) (t : State) : Type 0 where
-  pub answer : Answer
-  pub does : Does s (asked call.request) answer (asked served.request) t
-  pub answered : served.answer ≡ Some answer
-  pub kept : served.earlier ≡ call.answer
-
 -- a bench went from s to t over a session, and the calls were changed to what it left and answered
 pub record Served (s : State) (calls : List Call) (served : List Call) (t : State) : Type 0 where
   pub session : List Exchange

@@ -2,7 +2,8 @@
 ghost use Rattle.ciphers.specs.Maps.{SameMap};
 ghost use Rattle.chaining.specs.Benches.{state_of, begun, Turned};
 ghost use Rattle.chaining.specs.Mirrors.{SessionLaw, Mirrored, GivenBack};
-ghost use Rattle.chaining.specs.Sessions.{asked, Does, ServedCall, Served};
+ghost use Rattle.chaining.specs.Sessions.{asked, Does, Served};
+ghost use Rattle.chaining.specs.internal.OneCall.{ServedCall};
 
 use crate::bench::Bench;
 use crate::calls::{Call, Request};

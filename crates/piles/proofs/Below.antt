@@ -10,7 +10,7 @@ use Rattle.plans.specs.declared.stages.Stage.TheVariants.{Des, Ede2, Ede3, Idea,
 use Rattle.plans.specs.declared.stages.Stage.{Stage}
 use Rattle.piles.specs.declared.layers.Layer.{Layer}
 use Rattle.piles.specs.Keyed.{sealed_by}
-use Rattle.piles.specs.Layers.{layered}
+use Rattle.piles.specs.internal.Layers.{layered}
 
 sealed_by_below : (stage : Stage) (key : List ℕ) (b : ℕ) → ((i : ℕ) → get_or key i 0 < 256) → b < 2 ^ 64 → sealed_by stage key b < 2 ^ 64
 sealed_by_below Des key b bytes l = des_below _ b

@@ -4,7 +4,7 @@ use Rattle.ciphers.specs.Maps.{SameMap}
 use Rattle.plans.specs.declared.stages.Stage.{Stage}
 use Rattle.piles.specs.declared.layers.Layer.{Layer}
 use Rattle.piles.specs.Keyed.{sealed_by_all}
-use Rattle.piles.specs.Layers.{layered}
+use Rattle.piles.specs.internal.Layers.{layered}
 
 -- no stage is left after the last
 none_left : (stages : List Stage) (key : List ℕ) (b : ℕ) → length stages ≡ 0 → sealed_by_all stages key b ≡ b

@@ -9,7 +9,6 @@ use Rattle.plans.specs.Plans.{and_then, plan_of}
 use Rattle.plans.specs.Stages.{key_length}
 use Rattle.piles.specs.declared.pile.Pile.{Pile}
 use Rattle.piles.specs.Keyed.{sealed_by_all}
-use Rattle.piles.specs.Layers.{sealing}
 
 -- the stages, where the key has as many bytes as they take together
 abbrev pub with_key : List ℕ → List Stage → Result (List Stage) Refusal
@@ -29,9 +28,9 @@ abbrev pub map_after : Result (List Stage) Refusal → List ℕ → (ℕ → ℕ
 map_after (Ok stages) key before = sealed_by_all stages key
 map_after (Err refusal) key before = before
 
--- the answer is a pile with the map of the stages under the key, or the refusal
-abbrev pub Answers : Result (List Stage) Refusal → List ℕ → Result Pile Refusal → Type 0
-Answers (Ok stages) key (Ok pile) = SameMap (sealing pile) (sealed_by_all stages key)
-Answers (Ok stages) key (Err refusal) = ⊥
-Answers (Err refusal) key (Ok pile) = ⊥
-Answers (Err refusal) key (Err answered) = answered ≡ refusal
+-- the answer is a pile with the map of the stages under the key, or the refusal; map_of gives the map of a pile
+abbrev pub Answers : (Pile → ℕ → ℕ) → Result (List Stage) Refusal → List ℕ → Result Pile Refusal → Type 0
+Answers map_of (Ok stages) key (Ok pile) = SameMap (map_of pile) (sealed_by_all stages key)
+Answers map_of (Ok stages) key (Err refusal) = ⊥
+Answers map_of (Err refusal) key (Ok pile) = ⊥
+Answers map_of (Err refusal) key (Err answered) = answered ≡ refusal

@@ -1,3 +1,3 @@
 pub mod Fitting
 pub mod Keyed
-pub mod Layers
+pub mod internal

@@ -3,7 +3,7 @@ ghost use Rattle.std.specs.Prelude.{◌≡◌, ℕ, ◌<◌, get_or, length};
 ghost use Rattle.ciphers.specs.Maps.{SameMap};
 ghost use Rattle.plans.specs.Stages.{key_length};
 ghost use Rattle.piles.specs.Keyed.{sealed_by};
-ghost use Rattle.piles.specs.Layers.{layered};
+ghost use Rattle.piles.specs.internal.Layers.{layered};
 
 use ciphers::{Cipher, Four, Undo};
 use plans::Stage;

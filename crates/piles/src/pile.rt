@@ -2,7 +2,7 @@
 ghost use Rattle.std.specs.Prelude.{◌≡◌, ℕ, length, replicate};
 ghost use Rattle.ciphers.specs.Maps.{SameMap};
 ghost use Rattle.piles.specs.Fitting.{Answers, answer, fitting, map_after};
-ghost use Rattle.piles.specs.Layers.{sealing};
+ghost use Rattle.piles.specs.internal.Layers.{sealing};
 
 use crate::keys::{Key, Wiped};
 use crate::layers::Layer;
@@ -19,7 +19,7 @@ pub struct Pile {
 impl Pile {
     // A pile that keeps every block.
     pub fn new() -> Pile
-        ensures { (b : ℕ) → sealing result b ≡ b }
+        ensures { (b : ℕ) → ⟦<Pile as Cipher>⟧.map result b ≡ b }
     {
         Pile {
             layers: Pair::new(
@@ -34,7 +34,7 @@ impl Pile {
     #[tactic(auto, using(crate::proofs::Kept::kept))]
     pub fn fit(&mut self, description: &[u8], key: Key<'_>) -> Result<(), Refusal>
         ensures answer { result ≡ answer (fitting description.now key.entry.0.now) }
-        ensures map { SameMap (sealing self.new) (map_after (fitting description.now key.entry.0.now) key.entry.0.now (sealing self.old)) }
+        ensures map { SameMap (⟦<Pile as Cipher>⟧.map self.new) (map_after (fitting description.now key.entry.0.now) key.entry.0.now (⟦<Pile as Cipher>⟧.map self.old)) }
         ensures blank { key.exit.0.now ≡ replicate (length key.entry.0.now) 0 }
     {
         let Key(bytes) = key;
@@ -44,7 +44,7 @@ impl Pile {
 
     // A new pile that a description and the key in some bytes fit. The bytes are zeros afterwards.
     pub fn fitted(description: &[u8], bytes: &mut [u8]) -> Result<Pile, Refusal>
-        ensures pile { Answers (fitting description.now bytes.old) bytes.old result }
+        ensures pile { Answers ⟦<Pile as Cipher>⟧.map (fitting description.now bytes.old) bytes.old result }
         ensures blank { bytes.new ≡ replicate (length bytes.old) 0 }
     {
         let key = Wiped(bytes);

@@ -4,7 +4,7 @@ ghost use Rattle.std.specs.List.{sum_by};
 ghost use Rattle.ciphers.specs.Maps.{SameMap};
 ghost use Rattle.plans.specs.Stages.{key_length};
 ghost use Rattle.piles.specs.Keyed.{sealed_by_all};
-ghost use Rattle.piles.specs.Layers.{layered};
+ghost use Rattle.piles.specs.internal.Layers.{layered};
 
 use crate::layers::Layer;
 use ciphers::{Cipher, Pair};

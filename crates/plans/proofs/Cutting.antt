@@ -10,7 +10,8 @@ use Rattle.std.proofs.lemmas.List.{drop_more, drop_all, drop-drop, take_all, len
 use Rattle.std.proofs.lemmas.List.Quantifiers.{position-Some}
 use Rattle.std.proofs.lemmas.List.Sums.{fails_before_first, passes_at_first, prefix_len-le-length}
 use Rattle.std.proofs.lemmas.List.Splits.{slice_split_none, slice_split_first}
-use Rattle.plans.specs.Words.{placed_from, words_from, Wordless, Begins}
+use Rattle.plans.specs.Words.{placed_from, words_from}
+use Rattle.plans.specs.internal.FirstWord.{Wordless, Begins}
 
 abbrev space : ℕ → Bool
 space b = b == 32

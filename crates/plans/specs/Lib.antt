@@ -2,3 +2,4 @@ pub mod Plans
 pub mod Stages
 pub mod Words
 pub mod Written
+pub mod internal

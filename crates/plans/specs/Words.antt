@@ -1,5 +1,5 @@
 -- The words of a text, each with its place. Assumes nothing.
-use Rattle.std.specs.Prelude.{◌≡◌, ℕ, ◌+◌, List, [], ◌∷◌, length, drop, ◌==◌}
+use Rattle.std.specs.Prelude.{ℕ, ◌+◌, List, [], ◌∷◌, length, ◌==◌}
 use Rattle.std.specs.List.{slice_split}
 
 -- a word, and where it begins
@@ -17,12 +17,3 @@ placed_from place ((b ∷ bs) ∷ pieces) =
 -- the words of a text whose first byte has the place that is given: what stands between spaces
 abbrev pub words_from : ℕ → List ℕ → List Placed
 words_from place text = placed_from place (slice_split (λ b. b == 32) text)
-
--- a text has no word, whatever place it has. This and the next are of the reader, and no public clause cites them
-abbrev pub Wordless : List ℕ → Type 0
-Wordless text = (place : ℕ) → words_from place text ≡ []
-
--- a text begins with so many spaces and then a word, after which come its other words
-abbrev pub Begins : List ℕ → ℕ → List ℕ → Type 0
-Begins text spaces word = (place : ℕ) → words_from place text ≡
-    record { place = place + spaces; bytes = word } ∷ words_from (place + spaces + length word) (drop (spaces + length word) text)

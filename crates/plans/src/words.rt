@@ -2,7 +2,8 @@
 ghost use Rattle.std.specs.Prelude.{◌≡◌, ◌==◌, ◌≤◌, ◌+◌, length, IfSome, MatchOption, not};
 ghost use Rattle.std.specs.Iterator.{YieldsFirst, item_count};
 ghost use Rattle.std.specs.List.{position, position_or_len};
-ghost use Rattle.plans.specs.Words.{Begins, Wordless, words_from};
+ghost use Rattle.plans.specs.Words.{words_from};
+ghost use Rattle.plans.specs.internal.FirstWord.{Begins, Wordless};
 
 use std::marker::Model;
 

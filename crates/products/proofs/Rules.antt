@@ -1,7 +1,7 @@
 -- A product of which one word is 0, and one of which neither is. Assumes nothing.
 use Rattle.std.proofs.Common.{◌≡◌, ℕ, zero, suc, ◌+◌, ◌-◌, ◌*◌, ◌%◌, ◌^◌, ◌<◌, refl, ◌∙◌, arith}
 use Rattle.products.specs.Products.{product}
-use Rattle.products.specs.Residues.{product_comm}
+use Rattle.products.specs.internal.Residues.{product_comm}
 
 -- 1 less both words, modulo 65,536
 abbrev pub less_both : ℕ → ℕ → ℕ

@@ -1,2 +1,2 @@
 pub mod Products
-pub mod Residues
+pub mod internal

@@ -1,7 +1,7 @@
 // The product modulo 65,537 of words of 16 bits, of which 0 stands for 65,536.
 ghost use Rattle.std.specs.Prelude.{◌≡◌, ℕ, ◌*◌, ◌%◌, ◌^◌, ◌<◌};
 ghost use Rattle.products.specs.Products.{product, squared, stretched, inverse};
-ghost use Rattle.products.specs.Residues.{product_lawful};
+ghost use Rattle.products.specs.internal.Residues.{product_lawful};
 
 use groups::Group;
 
@@ -80,7 +80,7 @@ impl Group for Product16 {
 
     ghost lawful = { product_lawful };
 
-    #[tactic(auto, using(crate::specs::Residues::product_comm))]
+    #[tactic(auto, using(crate::specs::internal::Residues::product_comm))]
     fn join(left: u16, right: u16) -> u16
         ensures value { result ≡ product left right }
         ensures commutes { result ≡ product right left }

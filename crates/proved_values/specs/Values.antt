@@ -10,7 +10,7 @@ use Rattle.des.specs.Boxes.{boxed}
 use Rattle.des.specs.Des.{des}
 use Rattle.idea.specs.Idea.{idea}
 use Rattle.idea.specs.Keys.{key_word, key_words}
-use Rattle.idea.specs.Sealing.{groups}
+use Rattle.idea.specs.Networks.{groups}
 use Rattle.traces.specs.declared.headers.Label.{Label}
 use Rattle.traces.specs.Headers.{word_of}
 use Rattle.traces.specs.Padding.{padded}

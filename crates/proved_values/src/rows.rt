@@ -5,7 +5,7 @@ ghost use Rattle.std.specs.Int.{from_be_bytes, w128};
 ghost use Rattle.four_words.specs.Keying.{key_of};
 ghost use Rattle.four_words.specs.Turning.{turned_key};
 ghost use Rattle.idea.specs.Keys.{key_word, key_words};
-ghost use Rattle.idea.specs.Sealing.{groups};
+ghost use Rattle.idea.specs.Networks.{groups};
 ghost use Rattle.proved_values.specs.Values.{table, worked_out};
 
 use crate::closing::empty_file;

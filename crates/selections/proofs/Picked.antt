@@ -3,7 +3,8 @@ use Rattle.std.proofs.Common.{◌≡◌, ℕ, ◌+◌, ◌*◌, ◌/◌, ◌%◌
 use Rattle.std.proofs.Math.Nat.{pow-le-pow_right, pow-suc, div-eq_of_lt, mul_comm, mul_assoc}
 use Rattle.std.proofs.lemmas.Nat.{mul-le}
 use Rattle.std.specs.List.{fold, AllByRecursion}
-use Rattle.selections.specs.Selections.{bit, picked, picked_last}
+use Rattle.selections.specs.Selections.{bit, picked}
+use Rattle.selections.specs.internal.Wrapped.{picked_last}
 
 -- a word of 64 bits that is shifted by 64 or more
 pub shifted_out : (n k : ℕ) → n < 2 ^ 64 → 64 ≤ k → n / 2 ^ k ≡ 0

@@ -1,2 +1,3 @@
 pub mod Permutations
 pub mod Selections
+pub mod internal

@@ -9,7 +9,3 @@ bit w n i = n / 2 ^ (w - i) % 2
 -- the bits of a word of w bits that a table names, in the table's order, as a number
 abbrev pub picked : ℕ → List ℕ → ℕ → ℕ
 picked w table n = fold (λ out i. 2 * out + bit w n i) 0 table
-
--- the same, kept to 64 bits at each step. No public clause cites it
-unfoldable pub picked_last : ℕ → List ℕ → ℕ → ℕ
-picked_last w table n = fold (λ out i. (2 * out + bit w n i) % 2 ^ 64) 0 table

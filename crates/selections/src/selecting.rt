@@ -1,6 +1,7 @@
 // The bits of a word that a table names.
 ghost use Rattle.std.specs.Prelude.{◌≡◌, ◌+◌, ◌*◌, ◌^◌, ◌%◌, ◌<◌, ◌≤◌, length};
-ghost use Rattle.selections.specs.Selections.{bit, picked, picked_last};
+ghost use Rattle.selections.specs.Selections.{bit, picked};
+ghost use Rattle.selections.specs.internal.Wrapped.{picked_last};
 
 // Bit `place` of a word of `width` bits, counted from 1 at the most significant.
 #[tactic(auto, using(crate::proofs::Picked::shifted_out))]
@@ -20,7 +21,7 @@ fn push(bits: u64, bit: u64) -> u64
 }
 
 // The bits one after another, in a word of 64.
-#[tactic(auto, unfolding(crate::specs::Selections::picked_last))]
+#[tactic(auto, unfolding(crate::specs::internal::Wrapped::picked_last))]
 fn gathered(width: u32, table: &[u8], word: u64) -> u64
     ensures { result ≡ picked_last width table.now word }
 {

@@ -5,7 +5,8 @@ use Rattle.std.proofs.lemmas.Bool.{eqb-true, eqb-false}
 use Rattle.chaining.specs.declared.calls.Request.{Request}
 use Rattle.transcripts.specs.declared.lines.Line.TheVariants.{Key, Call}
 use Rattle.transcripts.specs.declared.lines.Line.{Line}
-use Rattle.transcripts.specs.Lines.{line_of, with_call, calls_of}
+use Rattle.transcripts.specs.Lines.{line_of}
+use Rattle.sessions.specs.internal.Calls.{with_call, calls_of}
 
 -- what a line adds stands in front of what the others add
 in_front : (line : Option (Line (List ℕ))) (rs : List (Request (List ℕ))) → with_call line rs ≡ with_call line [] ++ rs

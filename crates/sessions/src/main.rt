@@ -5,7 +5,8 @@
 
 ghost use Rattle.std.specs.Prelude.{◌≡◌, ◌≤◌, [], ◌++◌, length, OnOk};
 ghost use Rattle.chaining.specs.Sessions.{requests};
-ghost use Rattle.transcripts.specs.Lines.{line_of, with_call, calls_of};
+ghost use Rattle.transcripts.specs.Lines.{line_of};
+ghost use Rattle.sessions.specs.internal.Calls.{with_call, calls_of};
 
 mod printing;
 

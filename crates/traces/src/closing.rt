@@ -1,7 +1,6 @@
 // A trace closed into a file.
 ghost use Rattle.std.specs.Prelude.{◌≡◌, ◌≤◌, ◌++◌, length};
 ghost use Rattle.std.specs.Int.{to_be_bytes, w64};
-ghost use Rattle.piles.specs.Layers.{sealing};
 ghost use Rattle.traces.specs.Closing.{Closes, within};
 ghost use Rattle.traces.specs.Files.{Holds, file_length, judged_trace};
 ghost use Rattle.traces.specs.Laws.{MakesAgain};
@@ -9,6 +8,7 @@ ghost use Rattle.traces.specs.Laws.{MakesAgain};
 use crate::headers::{Label, label_word};
 use crate::padding::{pad, padding};
 use crate::runs::seal_run;
+use ciphers::Cipher;
 use piles::Pile;
 use refusals::Refusal;
 
@@ -50,8 +50,8 @@ fn write_head(header: u64, start: &[u8; 8], head: &mut [u8])
 fn write_file(pile: &mut Pile, header: u64, start: &[u8; 8], plain: &[u8], file: &mut [u8])
     requires few { length plain.now ≤ 32767 }
     requires room { length file.old ≡ file_length (length plain.now) }
-    ensures file { Holds (sealing pile.old) header start.now plain.now file.new }
-    ensures map { sealing pile.new ≡ sealing pile.old }
+    ensures file { Holds (⟦<Pile as Cipher>⟧.map pile.old) header start.now plain.now file.new }
+    ensures map { ⟦<Pile as Cipher>⟧.map pile.new ≡ ⟦<Pile as Cipher>⟧.map pile.old }
 {
     let (head, body) = file.split_at_mut(16);
     write_head(header, start, head);
@@ -78,8 +78,8 @@ fn close_file(
     plain: &[u8],
     output: &mut [u8],
 ) -> Result<usize, Refusal>
-    ensures closes { Closes (sealing pile.old) label start.now plain.now output.old result output.new }
-    ensures map { sealing pile.new ≡ sealing pile.old }
+    ensures closes { Closes (⟦<Pile as Cipher>⟧.map pile.old) label start.now plain.now output.old result output.new }
+    ensures map { ⟦<Pile as Cipher>⟧.map pile.new ≡ ⟦<Pile as Cipher>⟧.map pile.old }
 {
     let header = judge_trace(label, start, plain)?;
     let length = within(output.len(), file_length(plain.len()))?;
@@ -96,9 +96,9 @@ pub fn close(
     plain: &[u8],
     output: &mut [u8],
 ) -> Result<usize, Refusal>
-    ensures closes { Closes (sealing pile.old) label start.now plain.now output.old result output.new }
-    ensures map { sealing pile.new ≡ sealing pile.old }
-    ensures again { MakesAgain (sealing pile.old) label start.now plain.now output.old result output.new }
+    ensures closes { Closes (⟦<Pile as Cipher>⟧.map pile.old) label start.now plain.now output.old result output.new }
+    ensures map { ⟦<Pile as Cipher>⟧.map pile.new ≡ ⟦<Pile as Cipher>⟧.map pile.old }
+    ensures again { MakesAgain (⟦<Pile as Cipher>⟧.map pile.old) label start.now plain.now output.old result output.new }
 {
     close_file(pile, label, start, plain, output)
 }

@@ -2,7 +2,6 @@
 ghost use Rattle.std.specs.Prelude.{◌≡◌, ◌+◌, ◌≤◌, ◌%◌, length, take, IfOk, OnOk};
 ghost use Rattle.std.specs.Result.{result_map_both};
 ghost use Rattle.ciphers.specs.Maps.{SameMap};
-ghost use Rattle.piles.specs.Layers.{sealing};
 ghost use Rattle.traces.specs.Files.{Closed, OnlyRun};
 ghost use Rattle.traces.specs.Headers.{label_of};
 ghost use Rattle.traces.specs.Laws.{GivesBack};
@@ -14,6 +13,7 @@ use crate::headers::{Header, read_header};
 use crate::padding::unpad;
 use crate::runs::open_run;
 use arrayvec::ArrayVec;
+use ciphers::Cipher;
 use piles::Pile;
 use refusals::Refusal;
 
@@ -66,9 +66,9 @@ fn judge_plain(run: &[u8], room: usize) -> Result<&[u8], Refusal>
 fn open_copy(pile: &mut Pile, start: u64, sealed: &[u8]) -> ArrayVec<u8, 32_768>
     requires few { length sealed.now ≤ 32768 }
     requires whole { length sealed.now % 8 ≡ 0 }
-    ensures run { OnlyRun (sealing pile.old) start sealed.now result.items }
+    ensures run { OnlyRun (⟦<Pile as Cipher>⟧.map pile.old) start sealed.now result.items }
     ensures len { length result.items ≡ length sealed.now }
-    ensures map { SameMap (sealing pile.new) (sealing pile.old) }
+    ensures map { SameMap (⟦<Pile as Cipher>⟧.map pile.new) (⟦<Pile as Cipher>⟧.map pile.old) }
 {
     let mut run = ArrayVec::try_from(sealed).unwrap();
     open_run(pile, start, run.as_mut_slice());
@@ -81,9 +81,9 @@ fn open_body(pile: &mut Pile, file: &[u8]) -> ArrayVec<u8, 32_768>
     requires some { 16 ≤ length file.now }
     requires few { length file.now ≤ 32784 }
     requires whole { length file.now % 8 ≡ 0 }
-    ensures run { OnlyRun (sealing pile.old) (chain_of file.now) (body_of file.now) result.items }
+    ensures run { OnlyRun (⟦<Pile as Cipher>⟧.map pile.old) (chain_of file.now) (body_of file.now) result.items }
     ensures len { length result.items + 16 ≡ length file.now }
-    ensures map { SameMap (sealing pile.new) (sealing pile.old) }
+    ensures map { SameMap (⟦<Pile as Cipher>⟧.map pile.new) (⟦<Pile as Cipher>⟧.map pile.old) }
 {
     open_copy(pile, start(file), &file[16..])
 }
@@ -102,8 +102,8 @@ fn give(header: Header, run: &[u8], output: &mut [u8]) -> Result<Opened, Refusal
 // Opens a file.
 #[tactic(auto, using(crate::proofs::Given::opens_given, crate::proofs::Given::opens_refused))]
 fn open_file(pile: &mut Pile, file: &[u8], output: &mut [u8]) -> Result<Opened, Refusal>
-    ensures opens { Opens (sealing pile.old) file.now output.old result output.new }
-    ensures map { SameMap (sealing pile.new) (sealing pile.old) }
+    ensures opens { Opens (⟦<Pile as Cipher>⟧.map pile.old) file.now output.old result output.new }
+    ensures map { SameMap (⟦<Pile as Cipher>⟧.map pile.new) (⟦<Pile as Cipher>⟧.map pile.old) }
 {
     let header = judge_file(file)?;
     let run = open_body(pile, file);
@@ -113,10 +113,10 @@ fn open_file(pile: &mut Pile, file: &[u8], output: &mut [u8]) -> Result<Opened, 
 // Opens a file: writes its plain at the start of the output, and answers its label and the plain's length.
 #[tactic(auto, using(crate::proofs::Returning::closing_if))]
 pub fn open(pile: &mut Pile, file: &[u8], output: &mut [u8]) -> Result<Opened, Refusal>
-    ensures opens { Opens (sealing pile.old) file.now output.old result output.new }
-    ensures map { SameMap (sealing pile.new) (sealing pile.old) }
-    ensures given_back { GivesBack (sealing pile.old) file.now output.old result output.new }
-    ensures closing { IfOk result (λ o. Closed (sealing pile.old) (label_of o.header) (start_of file.now) (take o.length output.new) file.now) }
+    ensures opens { Opens (⟦<Pile as Cipher>⟧.map pile.old) file.now output.old result output.new }
+    ensures map { SameMap (⟦<Pile as Cipher>⟧.map pile.new) (⟦<Pile as Cipher>⟧.map pile.old) }
+    ensures given_back { GivesBack (⟦<Pile as Cipher>⟧.map pile.old) file.now output.old result output.new }
+    ensures closing { IfOk result (λ o. Closed (⟦<Pile as Cipher>⟧.map pile.old) (label_of o.header) (start_of file.now) (take o.length output.new) file.now) }
 {
     open_file(pile, file, output)
 }

@@ -3,7 +3,6 @@ ghost use Rattle.std.specs.Prelude.{◌≡◌, ◌%◌, ◌≤◌, length};
 ghost use Rattle.ciphers.specs.Maps.{Inverse, SameMap};
 ghost use Rattle.chaining.specs.declared.direction.Direction.TheVariants.{Opening, Sealing};
 ghost use Rattle.chaining.specs.Runs.{Rewritten};
-ghost use Rattle.piles.specs.Layers.{sealing};
 ghost use Rattle.traces.specs.Files.{OnlyRun};
 
 use chaining::Bench;
@@ -16,8 +15,8 @@ use std::mem;
 fn pass_after(bench: &mut Bench<Pile>, start: u64, run: &mut [u8])
     requires few { length run.old ≤ 32768 }
     requires whole { length run.old % 8 ≡ 0 }
-    ensures rewritten { Rewritten bench.old.direction (sealing bench.old.cipher) start run.old run.new }
-    ensures map { sealing bench.new.cipher ≡ sealing bench.old.cipher }
+    ensures rewritten { Rewritten bench.old.direction (⟦<Pile as Cipher>⟧.map bench.old.cipher) start run.old run.new }
+    ensures map { ⟦<Pile as Cipher>⟧.map bench.new.cipher ≡ ⟦<Pile as Cipher>⟧.map bench.old.cipher }
     ensures direction { bench.new.direction ≡ bench.old.direction }
 {
     bench.restart(&start.to_be_bytes()).unwrap();
@@ -28,8 +27,8 @@ fn pass_after(bench: &mut Bench<Pile>, start: u64, run: &mut [u8])
 pub(crate) fn seal_run(pile: &mut Pile, start: u64, run: &mut [u8])
     requires few { length run.old ≤ 32768 }
     requires whole { length run.old % 8 ≡ 0 }
-    ensures sealed { Rewritten Sealing (sealing pile.old) start run.old run.new }
-    ensures map { sealing pile.new ≡ sealing pile.old }
+    ensures sealed { Rewritten Sealing (⟦<Pile as Cipher>⟧.map pile.old) start run.old run.new }
+    ensures map { ⟦<Pile as Cipher>⟧.map pile.new ≡ ⟦<Pile as Cipher>⟧.map pile.old }
 {
     let mut bench = Bench::new(mem::replace(pile, Pile::new()));
     pass_after(&mut bench, start, run);
@@ -38,7 +37,7 @@ pub(crate) fn seal_run(pile: &mut Pile, start: u64, run: &mut [u8])
 
 // A new bench, turned once.
 fn opening_bench(pile: &mut Pile) -> Bench<Pile>
-    ensures map { Inverse (sealing pile.old) (sealing result.cipher) }
+    ensures map { Inverse (⟦<Pile as Cipher>⟧.map pile.old) (⟦<Pile as Cipher>⟧.map result.cipher) }
     ensures direction { result.direction ≡ Opening }
 {
     let mut bench = Bench::new(mem::replace(pile, Pile::new()));
@@ -48,7 +47,7 @@ fn opening_bench(pile: &mut Pile) -> Bench<Pile>
 
 // The pile of a bench, turned once more.
 fn turned_back(bench: Bench<Pile>) -> Pile
-    ensures { Inverse (sealing bench.cipher) (sealing result) }
+    ensures { Inverse (⟦<Pile as Cipher>⟧.map bench.cipher) (⟦<Pile as Cipher>⟧.map result) }
 {
     let mut pile = bench.into_cipher();
     pile.turn();
@@ -60,8 +59,8 @@ pub(crate) fn open_run(pile: &mut Pile, start: u64, run: &mut [u8])
     requires few { length run.old ≤ 32768 }
     requires whole { length run.old % 8 ≡ 0 }
     ensures len { length run.new ≡ length run.old }
-    ensures opened { OnlyRun (sealing pile.old) start run.old run.new }
-    ensures map { SameMap (sealing pile.new) (sealing pile.old) }
+    ensures opened { OnlyRun (⟦<Pile as Cipher>⟧.map pile.old) start run.old run.new }
+    ensures map { SameMap (⟦<Pile as Cipher>⟧.map pile.new) (⟦<Pile as Cipher>⟧.map pile.old) }
 {
     let mut bench = opening_bench(pile);
     pass_after(&mut bench, start, run);

@@ -2,7 +2,8 @@
 use Rattle.std.proofs.Common.{◌≡◌, ℕ, suc, ◌<◌, List, [], ◌∷◌, map, length, get_or, None, refl, ap₂, arith}
 use Rattle.chaining.specs.declared.calls.Call.{Call}
 use Rattle.chaining.specs.Sessions.{asked}
-use Rattle.transcripts.specs.Copies.{IsCopy, Copied}
+use Rattle.transcripts.specs.Copies.{Copied}
+use Rattle.transcripts.specs.internal.OneCopy.{IsCopy}
 
 -- two lists that agree at each place, under two maps
 map_same : {X : Type 0} (f g : Call → X) (xs ys : List Call) → length ys ≡ length xs → ((k : ℕ) (d : Call) → k < length xs → f (get_or ys k d) ≡ g (get_or xs k d)) → map f ys ≡ map g xs

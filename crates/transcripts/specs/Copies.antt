@@ -1,13 +1,7 @@
 -- Calls copied. Assumes nothing.
 use Rattle.std.specs.Prelude.{◌≡◌, List, map, None}
 use Rattle.chaining.specs.declared.calls.Call.{Call}
-use Rattle.chaining.specs.Sessions.{asked, requests, answers, earlier}
-
--- the same request, with no answer yet
-pub record IsCopy (call : Call) (copy : Call) : Type 0 where
-  pub request : asked copy.request ≡ asked call.request
-  pub answer : copy.answer ≡ None
-  pub earlier : copy.earlier ≡ None
+use Rattle.chaining.specs.Sessions.{requests, answers, earlier}
 
 -- the same requests, with no answer yet
 pub record Copied (calls : List Call) (copies : List Call) : Type 0 where

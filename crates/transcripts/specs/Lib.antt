@@ -1,3 +1,4 @@
 pub mod Copies
 pub mod Lines
 pub mod ReturnTrip
+pub mod internal

@@ -1,9 +1,8 @@
 -- The lines of a session's text. Assumes nothing.
-use Rattle.std.specs.Prelude.{ℕ, if◌then◌else◌, List, [], ◌∷◌, length, take, drop, Some, None, vec_items, codes, Option, Vec}
+use Rattle.std.specs.Prelude.{ℕ, if◌then◌else◌, List, length, take, drop, Some, None, vec_items, codes, Option, Vec}
 use Rattle.std.specs.Option.{option_map}
 use Rattle.std.specs.Str.{bytes_eq}
 use Rattle.chaining.specs.declared.calls.Request.TheVariants.{Pass, Turn, Restart}
-use Rattle.chaining.specs.declared.calls.Request.{Request}
 use Rattle.chaining.specs.Sessions.{asked}
 use Rattle.known_answers.specs.Hex.{bytes_of}
 use Rattle.transcripts.specs.declared.lines.Line.TheVariants.{Key, Call}
@@ -30,15 +29,3 @@ line_of line =
     (by_word (behind (codes "pass ") line) (λ run. Call (Pass run))
     (by_word (behind (codes "restart ") line) (λ start. Call (Restart start))
     (if bytes_eq line (codes "turn") then Some (Call Turn) else None)))
-
--- one more request, where the line is a call
-abbrev pub with_call : Option (Line (List ℕ)) → List (Request (List ℕ)) → List (Request (List ℕ))
-with_call (Some (Call request)) requests = request ∷ requests
-with_call (Some (Key key)) requests = requests
-with_call None requests = requests
-
--- the requests of a session: those of its lines up to an empty one
-unfoldable pub calls_of : List (List ℕ) → List (Request (List ℕ))
-calls_of [] = []
-calls_of ([] ∷ lines) = []
-calls_of ((c ∷ cs) ∷ lines) = with_call (line_of (c ∷ cs)) (calls_of lines)

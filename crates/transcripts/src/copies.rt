@@ -1,6 +1,7 @@
 // Copies of a session's calls.
 ghost use Rattle.std.specs.Prelude.{IfOk};
-ghost use Rattle.transcripts.specs.Copies.{IsCopy, Copied};
+ghost use Rattle.transcripts.specs.Copies.{Copied};
+ghost use Rattle.transcripts.specs.internal.OneCopy.{IsCopy};
 
 use chaining::Call;
 use std::alloc::{AllocError, Global};

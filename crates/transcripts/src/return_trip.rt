@@ -2,16 +2,16 @@
 ghost use Rattle.ciphers.specs.Maps.{SameMap};
 ghost use Rattle.chaining.specs.Benches.{state_of};
 ghost use Rattle.chaining.specs.Mirrors.{SessionLaw};
-ghost use Rattle.xtea.specs.Sealing.{sealing};
 ghost use Rattle.xtea.specs.Xtea.{xtea};
 ghost use Rattle.transcripts.specs.ReturnTrip.{Returned};
 
 use chaining::{Bench, Call, mirror};
+use ciphers::Cipher;
 use xtea::{Cycles, Xtea};
 
 // XTEA with its usual 32 cycles.
 pub fn full_xtea(key: &[u8; 16]) -> Xtea
-    ensures { SameMap (sealing result) (xtea key.now 32) }
+    ensures { SameMap (⟦<Xtea as Cipher>⟧.map result) (xtea key.now 32) }
 {
     Xtea::new(key, Cycles::full())
 }
@@ -20,7 +20,7 @@ pub fn full_xtea(key: &[u8; 16]) -> Xtea
 // what they brought, with both answers.
 pub fn there_and_back(key: &[u8; 16], calls: &mut [Call]) -> (Bench<Xtea>, Bench<Xtea>)
     ensures law { SessionLaw }
-    ensures returned { Returned key.now calls.old calls.new (state_of sealing result.0) (state_of sealing result.1) }
+    ensures returned { Returned key.now calls.old calls.new (state_of ⟦<Xtea as Cipher>⟧.map result.0) (state_of ⟦<Xtea as Cipher>⟧.map result.1) }
 {
     mirror(full_xtea(key), full_xtea(key), calls)
 }

@@ -108,7 +108,7 @@ impl<G: Group<Word = u32>> Cipher for Whitening<G> {
     }
 
     fn turn(&mut self)
-        ensures inverse { Inverse (joined_with G.joined self.old.words) (joined_with G.joined self.new.words) }
+        ensures inverse { Inverse (⟦<Self as Cipher>⟧.map self.old) (⟦<Self as Cipher>⟧.map self.new) }
         ensures words { self.new.words ≡ inverses G.inverted self.old.words }
     {
         self.invert();

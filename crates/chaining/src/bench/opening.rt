@@ -2,7 +2,8 @@
 ghost use Rattle.std.specs.Prelude.{◌≡◌, ◌%◌, ◌*◌, ◌+◌, ◌≤◌, length};
 ghost use Rattle.std.specs.Int.{to_be_bytes, w64};
 ghost use Rattle.chaining.specs.declared.direction.Direction.TheVariants.{Opening};
-ghost use Rattle.chaining.specs.Runs.{Rewritten, block, chain_after, four_of, opened_four};
+ghost use Rattle.chaining.specs.Runs.{Rewritten, block, chain_after};
+ghost use Rattle.chaining.specs.internal.Fours.{four_of, opened_four};
 
 use crate::bench::Bench;
 use ciphers::{Cipher, Four};

@@ -1,7 +1,7 @@
 -- What the loop of `read_calls` keeps. Assumes nothing.
 use Rattle.std.proofs.Common.{◌≡◌, ◌≤◌, ◌++◌, length, vec_items}
 use Rattle.chaining.specs.Sessions.{requests}
-use Rattle.transcripts.specs.Lines.{calls_of}
+use Rattle.sessions.specs.internal.Calls.{calls_of}
 use Rattle.sessions.proofs.read_calls.Given as goal
 
 -- no line comes back, and the requests so far with those of the lines that are left are the requests of all

@@ -1,7 +1,6 @@
 -- `empty_file` meets its contract. Assumes nothing.
-use Rattle.piles.specs.Layers.{sealing}
 use Rattle.proved_values.proofs.Empty.{closed_empty}
 use Rattle.proved_values.proofs.closing.empty_file.Goals as goal
 
 pub returns : goal.returns
-returns c = closed_empty (sealing c.new.result) c.args.label c.close.result c.close.new.output c.new.ensures c.requires c.close.ensures.closes
+returns c = closed_empty _ c.args.label c.close.result c.close.new.output c.new.ensures c.requires c.close.ensures.closes

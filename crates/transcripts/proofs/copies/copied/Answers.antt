@@ -2,7 +2,7 @@
 use Rattle.std.proofs.Common.{◌≡◌, ℕ, ◌<◌, length, get_or, IfOk, vec_items, rules}
 use Rattle.std.proofs.lemmas.Result.{IfOk-weaker}
 use Rattle.chaining.specs.declared.calls.Call.{Call}
-use Rattle.transcripts.specs.Copies.{IsCopy}
+use Rattle.transcripts.specs.internal.OneCopy.{IsCopy}
 use Rattle.transcripts.proofs.Copying.{copied_each}
 use Rattle.transcripts.proofs.copies.copied.Goals as goal
 

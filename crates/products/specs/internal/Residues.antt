@@ -1,4 +1,4 @@
--- Products modulo 65,537 make a group of the words of 16 bits. A proof, which a reader need not believe. Assumes nothing.
+-- Products modulo 65,537 make a group of the words of 16 bits. Assumes nothing.
 use Rattle.std.proofs.Common.{◌≡◌, ℕ, zero, suc, ◌+◌, ◌*◌, ◌%◌, ◌^◌, ◌<◌, ◌≤◌, Bool, true, ◌&&◌, refl, sym, ap, ◌∙◌, arith, ⊎_elim}
 use Rattle.std.specs.Prelude.{◌==◌}
 use Rattle.std.proofs.Math.Nat.{mul_comm, mul_assoc, mul-zero, one-mul, pow-suc}
