@@ -5,7 +5,8 @@ use Rattle.std.specs.List.{range_with_len}
 use Rattle.std.proofs.lemmas.List.FromFn.{get_or-map-range_with_len}
 use Rattle.std.proofs.lemmas.List.{get_or-map, get_or-replicate}
 use Rattle.des.specs.Tables.{rows}
-use Rattle.des.specs.Boxes.{number_in, box_numbers, boxed, row_of, column_of, row_of_box, times_in}
+use Rattle.des.specs.internal.BoxTable.{box_numbers}
+use Rattle.des.specs.Boxes.{number_in, boxed, row_of, column_of, row_of_box, times_in}
 
 pub entry : (index six : ℕ) → index < 8 → six < 64 → get_or box_numbers (16 * (4 * index + row_of six) + column_of six) 0 ≡ boxed index six
 unfolding box_numbers boxed

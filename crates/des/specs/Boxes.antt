@@ -7,10 +7,6 @@ use Rattle.des.specs.Tables.{rows}
 abbrev pub number_in : ℕ → ℕ → ℕ
 number_in row c = row / 16 ^ (15 - c) % 16
 
--- the numbers of all boxes, one row after another
-unfoldable pub box_numbers : List ℕ
-box_numbers = map (λ k. number_in (slice_index rows (k / 16)) (k % 16)) (range_with_len 0 512)
-
 -- of six bits, b1 and b6 choose the row
 abbrev pub row_of : ℕ → ℕ
 row_of six = 2 * (six / 32) + six % 2

@@ -1,4 +1,5 @@
 pub mod Between
+pub mod BoxTable
 pub mod Expansion
 pub mod Merged
 pub mod Sealing

@@ -1,11 +1,12 @@
 // The S-boxes: six bits to four.
 ghost use Rattle.std.specs.Prelude.{◌≡◌, ℕ, ◌+◌, ◌-◌, ◌*◌, ◌/◌, ◌%◌, ◌<◌, ◌&&◌, nat_le, nat_lt, IfSome, if◌then◌else◌};
-ghost use Rattle.des.specs.Boxes.{box_numbers, boxed, row_of, column_of, row_of_box, times_in};
+ghost use Rattle.des.specs.Boxes.{boxed, row_of, column_of, row_of_box, times_in};
+ghost use Rattle.des.specs.internal.BoxTable.{box_numbers};
 
 use crate::tables::BOXES;
 
 // The eight boxes, four rows of sixteen numbers to each.
-#[tactic(auto, unfolding(crate::specs::Boxes::box_numbers))]
+#[tactic(auto, unfolding(crate::specs::internal::BoxTable::box_numbers))]
 fn numbers() -> &'static [u8; 512]
     ensures { result.now ≡ box_numbers }
 {
