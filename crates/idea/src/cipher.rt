@@ -8,6 +8,7 @@ ghost use Rattle.idea.specs.Held.{network_in};
 ghost use Rattle.idea.specs.Idea.{idea};
 ghost use Rattle.idea.specs.Keys.{key_words};
 ghost use Rattle.idea.specs.Networks.{network_of};
+ghost use Rattle.idea.specs.internal.Sealing.{sealing};
 
 use crate::expansion::key_schedule;
 use crate::mixing::IdeaBox;
@@ -54,7 +55,7 @@ impl Idea {
 }
 
 impl Cipher for Idea {
-    ghost map = { λ x. four_word (network_in x) };
+    ghost map = { sealing };
 
     // the network is turned: its words become those of the turned network
     ghost turns = { λ old new. network_in new ≡ turned (network_in old) };

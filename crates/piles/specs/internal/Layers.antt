@@ -2,11 +2,10 @@
 use Rattle.std.specs.Prelude.{ℕ, bit_xor, ◌^◌}
 use Rattle.groups.specs.Sums.{sum}
 use Rattle.ciphers.specs.internal.Sealing.{composed}
-use Rattle.four_words.specs.Passing.{four_word}
 use Rattle.whitening.specs.Whitening.{joined_with}
 use Rattle.xtea.specs.internal.Sealing as xtea
 use Rattle.des.specs.internal.Sealing as des
-use Rattle.idea.specs.Held.{network_in}
+use Rattle.idea.specs.internal.Sealing as idea
 use Rattle.piles.specs.declared.layers.Layer.TheVariants.{Empty, Des, TripleDes, Idea, Xtea, Wxor, Wadd}
 use Rattle.piles.specs.declared.layers.Layer.{Layer}
 use Rattle.piles.specs.declared.pile.Pile.{Pile}
@@ -16,7 +15,7 @@ abbrev pub layered : Layer → ℕ → ℕ
 layered Empty b = b
 layered (Des c) b = des.sealing c b
 layered (TripleDes c) b = des.sealing_three c b
-layered (Idea c) b = four_word (network_in c) b
+layered (Idea c) b = idea.sealing c b
 layered (Xtea c) b = xtea.sealing c b
 layered (Wxor c) b = joined_with bit_xor c.words b
 layered (Wadd c) b = joined_with (sum (2 ^ 32)) c.words b
