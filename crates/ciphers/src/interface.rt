@@ -9,7 +9,7 @@ use networks::Four;
 pub trait Cipher {
     ghost map: { Self → ℕ → ℕ };
 
-    // what a turn makes of the value, where that is more than the inverse map
+    // what a turn does to the value, where that says more than the inverse map
     ghost turns: { Self → Self → Type 0 } = { λ old new. Unit {0} };
 
     // The map's block: encrypts, or decrypts once the cipher is turned.

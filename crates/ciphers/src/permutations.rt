@@ -79,7 +79,7 @@ impl<P: Permutation> BitPermutation<P> {
 impl<P: Permutation> Cipher for BitPermutation<P> {
     ghost map = { λ p. permuted_by p.inverted P.table };
 
-    // the other table is gone by
+    // it goes by the other table
     ghost turns = { λ old new. new.inverted ≡ not old.inverted };
 
     fn seal(&self, block: u64) -> u64 {

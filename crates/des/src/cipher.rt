@@ -25,6 +25,7 @@ pub struct Des {
 
 impl Des {
     ghost use Rattle.des.specs.Held.{network_in};
+    ghost use Rattle.des.specs.internal.Sealing.{sealing};
 
     #[tactic(auto, using(crate::proofs::Ciphering::sealed_new, crate::proofs::Deciphering::des_inverse, crate::proofs::Eighths::des_same))]
     pub fn new(key: &[u8; 8]) -> Des
@@ -41,10 +42,6 @@ impl Des {
             ),
         }
     }
-}
-
-impl Des {
-    ghost use Rattle.des.specs.internal.Sealing.{sealing};
 
     // What the layers make of a block. A part of its own, so that a wrong block is refused here, and not where a proof cites it.
     fn layered(&self, block: u64) -> u64

@@ -5,7 +5,8 @@
 // triple DES under two and three keys. Under opposite keys, opposite texts are sealed to opposite blocks (`seal_both`). An
 // S-box gives four bits, and its row holds each number of four bits once; the cipher itself looks up one table that merges the
 // boxes with P and E. No call refuses. DES is built as a permutation, a Feistel network over xor and the inverse permutation,
-// and triple DES as three such networks between the permutations, so turning and undoing need no proof of their own.
+// and triple DES as three such networks between the permutations, so turning and undoing need no proof of their own: `seal`
+// runs the networks' rounds in order, between IP and its inverse, and `turn` turns each network.
 #![tactic(auto)]
 
 mod boxes;

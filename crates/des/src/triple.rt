@@ -43,6 +43,7 @@ fn networks(first: &[u8; 8], second: &[u8; 8], third: &[u8; 8]) -> Ede<Network>
 
 impl TripleDes {
     ghost use Rattle.des.specs.Held.{networks_in};
+    ghost use Rattle.des.specs.internal.Sealing.{sealing_three};
 
     pub(crate) fn under(first: &[u8; 8], second: &[u8; 8], third: &[u8; 8]) -> TripleDes
         ensures networks { networks_in result ≡ networks_of (from_be_bytes w64 first.now) (from_be_bytes w64 second.now) (from_be_bytes w64 third.now) }
@@ -56,10 +57,6 @@ impl TripleDes {
             ),
         }
     }
-}
-
-impl TripleDes {
-    ghost use Rattle.des.specs.internal.Sealing.{sealing_three};
 
     // What the layers make of a block. A part of its own, so that a wrong block is refused here, and not where a proof cites it.
     fn layered(&self, block: u64) -> u64

@@ -4,8 +4,8 @@ ghost use Rattle.networks.specs.Fours.{each};
 ghost use Rattle.networks.specs.Halves.{Words};
 ghost use Rattle.networks.specs.Inverses.{Inverses};
 ghost use Rattle.networks.specs.Networks.{network};
-ghost use Rattle.networks.specs.internal.Abreast.{rounds_abreast};
 ghost use Rattle.networks.specs.Rounds.{applied, round, rounds, unround, unrounds, ran, unran, turned};
+ghost use Rattle.networks.specs.internal.Abreast.{rounds_abreast};
 
 use crate::fours::Four;
 use crate::functions::RoundFunction;
@@ -233,7 +233,8 @@ impl<G: Group, F: RoundFunction<Half = G::Word>, const N: usize> Feistel<G, F, N
         self.unrounds(halves.swap())
     }
 
-    // The way back that undoes the rounds. It makes of any halves what the turned network makes of them.
+    // The way back that undoes the rounds, to what the network makes the halves of. It makes of any halves what the turned
+    // network makes of them.
     pub fn undo(&self, halves: Halves<G::Word>) -> Halves<G::Word>
         ensures value { result ≡ unran (network G.Group F.RoundFunction self.now) halves }
         ensures turned { result ≡ ran (turned (network G.Group F.RoundFunction self.now)) halves }
@@ -259,8 +260,8 @@ impl<G: Group, F: RoundFunction<Half = G::Word>, const N: usize> Feistel<G, F, N
         self.reverse();
     }
 
-    // Both ways back of any halves, the rounds undone and the turned network run: they agree, and lead back to halves that
-    // the network makes into these. It is as it was afterwards, which is more than a cipher promises of its map.
+    // Both ways back of any halves, the rounds undone and the turned network run: they agree, and lead to what the network
+    // makes the halves of. It is as it was afterwards, which is more than a cipher promises of its map.
     pub fn ways_back(&mut self, halves: Halves<G::Word>) -> WaysBack<Halves<G::Word>>
         ensures undone { result.undone ≡ unran (network G.Group F.RoundFunction self.old) halves }
         ensures turned { result.turned ≡ ran (turned (network G.Group F.RoundFunction self.old)) halves }

@@ -1,11 +1,11 @@
 // Feistel networks, generic over a group and a round function, with both of their ways back.
 //
-// Promises, for every lawful group, round function, number of rounds and choice of round words: `Feistel::run` answers what
-// the definition of the network says, and `run_four` the same of four pairs of halves, which it works on side by side;
-// `turn` reverses the round words and inverts the function's values, and the turned network is the inverse; undoing the
-// rounds and running the turned network make the same of any halves (`undo`, `ways_back`). A schedule has room for as many
-// words as its type says. Words may be kept, and halves worked on, in another form than that of their definitions
-// (`RoundFunction`, `HalfWord`); contracts speak of what they stand for. No call refuses.
+// Promises, for every lawful group, round function, number of rounds from 0 to 64 and choice of round words: `Feistel::run`
+// answers what the definition of the network says, and `run_four` the same of four pairs of halves, which it works on side by
+// side; `turn` reverses the round words and inverts the function's values, and the turned network is the inverse; undoing the
+// rounds and running the turned network make the same of any halves, and the network makes these halves of it again (`undo`,
+// `ways_back`). A schedule of more than 64 words is not made. Words may be kept, and halves worked on, in another form than
+// that of their definitions (`RoundFunction`, `HalfWord`); contracts speak of what they stand for. No call refuses.
 #![tactic(auto)]
 
 mod feistel;

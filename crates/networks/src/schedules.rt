@@ -41,7 +41,7 @@ fn reverse_items<const N: usize>(kept: &mut ArrayVec<u64, N>)
 }
 
 impl<F: RoundFunction, const N: usize> Schedule<F, N> {
-    // The words of as many rounds. None where there are more than 64.
+    // The words of all rounds, as they are kept. None where there are more than 64.
     pub fn new(kept: ArrayVec<u64, N>) -> Option<Schedule<F, N>>
         ensures { MatchOption result (64 < length kept.entry.items) (λ schedule. schedule ≡ map F.RoundFunction.word_of kept.entry.items) }
     {

@@ -2,7 +2,7 @@
 ghost use Rattle.std.specs.Prelude.{◌≡◌, ◌^◌, ◌<◌};
 ghost use Rattle.std.specs.Int.{from_be_bytes, w64};
 ghost use Rattle.networks.specs.Halves.{halves_of, Words};
-ghost use Rattle.ciphers.specs.Maps.{Inverse, SameMap};
+ghost use Rattle.ciphers.specs.Maps.{SameMap};
 ghost use Rattle.whitening.specs.Whitening.{inverses, joined_with, wadd, whitened, wxor};
 
 use ciphers::{Cipher, Undo};
@@ -103,14 +103,14 @@ impl<G: Group<Word = u32>> Whitening<G> {
 impl<G: Group<Word = u32>> Cipher for Whitening<G> {
     ghost map = { λ w. joined_with G.joined w.words };
 
+    // both words become their inverses
+    ghost turns = { λ old new. new.words ≡ inverses G.inverted old.words };
+
     fn seal(&self, block: u64) -> u64 {
         Self::joined(self.words, block)
     }
 
-    fn turn(&mut self)
-        ensures inverse { Inverse (⟦<Self as Cipher>⟧.map self.old) (⟦<Self as Cipher>⟧.map self.new) }
-        ensures words { self.new.words ≡ inverses G.inverted self.old.words }
-    {
+    fn turn(&mut self) {
         self.invert();
     }
 }
