@@ -1,4 +1,4 @@
--- Exclusive or makes a group of the 32-bit words: each word is its own inverse. A proof, which a reader need not believe. Assumes nothing.
+-- Exclusive or makes a group of the 32-bit words: each word is its own inverse. Assumes nothing.
 use Rattle.std.specs.Prelude.{◌^◌, ◌<◌, bit_xor, refl}
 use Rattle.std.specs.Int.Bits.{xor_assoc, xor_self, xor_zero_r}
 use Rattle.std.proofs.Common.{arith}
