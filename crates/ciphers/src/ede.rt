@@ -41,7 +41,10 @@ impl<C: Cipher> Cipher for Ede<C> {
     // the first and the third change places, and all three are turned
     ghost turns = { λ old new. C.Cipher.turns old.third new.first × C.Cipher.turns old.second new.second × C.Cipher.turns old.first new.third };
 
-    fn seal(&self, block: u64) -> u64 {
+    fn seal(&self, block: u64) -> u64
+        ensures map { result ≡ ⟦<Self as Cipher>⟧.map self.now block }
+        ensures parts { result ≡ in_turn (C.Cipher.map self.now.first) (C.Cipher.map self.now.second) (C.Cipher.map self.now.third) block }
+    {
         self.third.seal(self.second.seal(self.first.seal(block)))
     }
 

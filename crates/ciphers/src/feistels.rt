@@ -34,7 +34,7 @@ impl<W: HalfWord, G: Group<Word = W>, F: RoundFunction<Half = W>, const N: usize
     for Feistel<G, F, N> {
     ghost map = { λ n. feistel_of W.HalfWord.word_of W.HalfWord.number_of (network G.Group F.RoundFunction n) };
 
-    // the network is turned: its round words are reversed, and its function's values inverted
+    // the network is turned: its round words are reversed, and its function's values inverted, or no longer inverted
     ghost turns = { λ old new. network G.Group F.RoundFunction new ≡ turned (network G.Group F.RoundFunction old) };
 
     fn seal(&self, block: u64) -> u64

@@ -1,5 +1,5 @@
 // Permutations of the bits of a block.
-ghost use Rattle.std.specs.Prelude.{◌≡◌, not, List, ℕ, true, false};
+ghost use Rattle.std.specs.Prelude.{◌≡◌, not, List, ℕ, true, false, if◌then◌else◌};
 ghost use Rattle.selections.specs.Permutations.{NamesEachOnce, inverse_table};
 ghost use Rattle.selections.specs.Selections.{picked};
 ghost use Rattle.ciphers.specs.internal.Sealing.{permuted_by};
@@ -82,7 +82,10 @@ impl<P: Permutation> Cipher for BitPermutation<P> {
     // it goes by the other table
     ghost turns = { λ old new. new.inverted ≡ not old.inverted };
 
-    fn seal(&self, block: u64) -> u64 {
+    fn seal(&self, block: u64) -> u64
+        ensures map { result ≡ ⟦<Self as Cipher>⟧.map self.now block }
+        ensures table { result ≡ picked 64 (if self.now.inverted then inverse_table 64 P.table else P.table) block }
+    {
         Self::through(self.inverted, block)
     }
 

@@ -1,5 +1,5 @@
 // One cipher after another.
-ghost use Rattle.std.specs.Prelude.{◌≡◌, ℕ, false, not};
+ghost use Rattle.std.specs.Prelude.{◌≡◌, ℕ, false, if◌then◌else◌, not};
 ghost use Rattle.ciphers.specs.internal.Sealing.{composed};
 
 use crate::interface::Cipher;
@@ -36,7 +36,12 @@ impl<A: Cipher, B: Cipher> Cipher for Pair<A, B> {
     // both are turned, and their order is reversed
     ghost turns = { λ old new. A.Cipher.turns old.first new.first × B.Cipher.turns old.second new.second × (new.reversed ≡ not old.reversed) };
 
-    fn seal(&self, block: u64) -> u64 {
+    fn seal(&self, block: u64) -> u64
+        ensures map { result ≡ ⟦<Self as Cipher>⟧.map self.now block }
+        ensures order { result ≡ (if self.now.reversed
+            then A.Cipher.map self.now.first (B.Cipher.map self.now.second block)
+            else B.Cipher.map self.now.second (A.Cipher.map self.now.first block)) }
+    {
         if self.reversed {
             self.first.seal(self.second.seal(block))
         } else {

@@ -72,7 +72,8 @@ impl Cipher for TripleDes {
 
     ghost map = { sealing_three };
 
-    // the three networks change their order, and each is turned: its round words are reversed, and its function's values inverted
+    // the three networks change their order, and each is turned: its round words are reversed, and its function's values
+    // inverted, or no longer inverted
     ghost turns = { λ old new. networks_in new ≡ reverse (map turned (networks_in old)) };
 
     fn seal(&self, block: u64) -> u64

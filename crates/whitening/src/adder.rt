@@ -106,7 +106,10 @@ impl<G: Group<Word = u32>> Cipher for Whitening<G> {
     // both words become their inverses
     ghost turns = { λ old new. new.words ≡ inverses G.inverted old.words };
 
-    fn seal(&self, block: u64) -> u64 {
+    fn seal(&self, block: u64) -> u64
+        ensures map { result ≡ ⟦<Self as Cipher>⟧.map self.now block }
+        ensures words { result ≡ joined_with G.joined self.now.words block }
+    {
         Self::joined(self.words, block)
     }
 

@@ -40,7 +40,7 @@ impl Cipher for Xtea {
 
     ghost map = { sealing };
 
-    // the network is turned: its round words are reversed, and its function's values inverted
+    // the network is turned: its round words are reversed, and its function's values inverted, or no longer inverted
     ghost turns = { λ old new. network_in new ≡ turned (network_in old) };
 
     fn seal(&self, block: u64) -> u64
