@@ -27,9 +27,11 @@ from ghost_text import NAME, Definitions, Unread, names_in
 
 # Ghost members of the library's traits whose values are proofs.
 PROOFS = {"laws", "total", "matches_partial_cmp", "matches_eq", "size_decreases", "coded"}
-# A cipher's map. What it means is promised by `seal` and by what makes the cipher.
-MAP = ("Cipher", "map")
+# The trait and the name of a cipher's map. What it means is promised by `seal` and by what makes the cipher.
+MAP = ("ciphers", "Cipher", "map")
 ROOTS = ("lib", "main", "Lib")
+# What a contract is called that is no clause: the types of a function, or what a name of a type stands for.
+SIGNATURE = "types"
 
 
 class Def(NamedTuple):
@@ -217,6 +219,11 @@ class Repository:
         return self.found(self.scope_within(node.crate, node.module), names)
 
 
+def clauses_of(items):
+    """The clauses of the functions among some items."""
+    return [text for item in items if item.kind == "fn" for _, text in item.clauses]
+
+
 class Root(NamedTuple):
     """A public contract: where it stands, what it is called, what it names, and whether it is a cipher's map."""
 
@@ -231,17 +238,22 @@ class Contracts:
     """The public contracts, and what is made of a type.
 
     Public are
-    - the clauses of each function that a library exports, and of each public function of an exported type;
+    - the clauses of each function that a library exports, and of each public function of an exported type, with the types
+      that it takes and answers;
     - all of a public trait: the types of its ghost members, what they are by default, and the clauses of its functions;
-    - in an implementation of a public trait of this repository, whatever the type: the clauses, and the values of the
-      ghost members, but no law (the trait names it below its last function) and no cipher's map;
+    - in an implementation of a trait of this repository, whatever the type: the clauses, and the values of the ghost
+      members, but no law and no cipher's map;
     - in an implementation of another trait for what is no private type: the same, but no law or proof;
+    - the types that an implementation for what is no private type names, and those that an exported type is a name for;
     - the ghost fields of exported types.
-    The clauses of other functions and of closures are not.
+    A law is a ghost member that its trait has below its last function, and that no function's clause names. The clauses of other
+    functions and of closures are not public.
     """
 
     def __init__(self, repository):
         self.repository, self.roots = repository, []
+        items = [item for file in repository.files for outer in file.items for item in [outer] + outer.members]
+        self.members = {word for text in clauses_of(items) for word in re.findall(r"\.(\w+)", text)}
         for file in repository.files:
             repository.attempt(file.path, lambda file=file: self.visit(file))
 
@@ -255,16 +267,19 @@ class Contracts:
             if item.kind == "impl":
                 self.implementation(file, inner, item)
             elif item.kind == "fn" and item in file.exported:
-                self.add(file, inner, f"fn {item.name}", item)
+                self.add(file, inner, f"fn {item.name}", item, True)
             elif item.kind in TYPES and Type(file.crate, item.name) in self.repository.public:
                 for member in [item] + item.members:
-                    self.add(file, inner, f"{item.kind} {item.name}", member)
+                    self.add(file, inner, f"{item.kind} {item.name}", member, True)
 
-    def add(self, file, uses, owner, item, is_map=False):
-        """Notes the clauses of a function, of a ghost member, or of a type's ghost fields."""
+    def add(self, file, uses, owner, item, with_types, is_map=False):
+        """Notes the clauses of a function, of a ghost member, or of a type's ghost fields, and the types that it has."""
         owner += f", fn {item.name}" if item.kind == "fn" and owner != f"fn {item.name}" else ""
         for label, text in item.clauses:
             self.roots.append(Root(file.path, owner, label, self.targets(uses, [text]), is_map))
+        if with_types and item.kind in ("fn", "type"):
+            text = item.header if item.kind == "fn" else item.text
+            self.roots.append(Root(file.path, owner, SIGNATURE, self.targets([], [text]), False))
 
     def targets(self, uses, texts):
         """What some texts of the code name: definitions, and types of the code."""
@@ -276,10 +291,11 @@ class Contracts:
         trait_name, type_name = implemented(item.header)
         trait, is_public = self.trait(trait_name), self.is_for_public(file, trait_name, type_name)
         left_out = self.laws(item, trait) if trait else PROOFS
-        if is_public or trait in self.repository.public:
+        if is_public or trait:
             for member in item.members:
                 if (member.is_public or trait_name) and not (member.kind == "ghost" and member.name in left_out):
-                    self.add(file, uses, item.header, member, (trait and trait.name, member.name) == MAP)
+                    is_map = trait is not None and (*trait, member.name) == MAP
+                    self.add(file, uses, item.header, member, is_public, is_map)
 
     def trait(self, name):
         """The trait of this repository that has a name, or None."""
@@ -293,7 +309,7 @@ class Contracts:
         _, found = self.repository.item(trait)
         if not named_members(item) <= named_members(found):
             raise Unread(f"{trait.name} has not all that `{item.header}` gives")
-        return laws(found)
+        return laws(found) - self.members - {word for text in clauses_of(found.members) for word in re.findall(r"\w+", text)}
 
     def is_for_public(self, file, trait_name, type_name):
         """Whether an implementation is for what is no private type of its crate."""
@@ -398,7 +414,7 @@ def main():
         print(f"public definitions: {fault}", file=sys.stderr)
     if options.list or repository.faults:
         return 0 if options.list else 1
-    roots = [root for root in contracts.roots if not root.is_map]
+    roots = [root for root in contracts.roots if not root.is_map and root.part != SIGNATURE]
     owners = {(root.path, root.owner, root.part if root.part[:5] == "ghost" else "") for root in roots}
     crates = {root.path.relative_to(repository.root).parts[1] for root in roots}
     internal = sum(node.is_internal() for node in definitions)

@@ -83,6 +83,53 @@ try "a public trait's member" "ghost number_of: reaches $planted" networks/src/h
 try "a clause of a public trait" "fn from_number, ensures: reaches $planted" networks/src/half_words.rt \
     'result ≡ word_of number' 'result ≡
         word_of (planted number)'
+inner='struct Inner;
+
+impl Model for Inner {
+    ghost Value = { ℕ };
+
+    ghost view = { planted };
+}
+'
+try "a type that a public function answers" "fn inner, types: reaches Inner (a type of networks) -> $planted" networks/src/pairs.rt \
+    'impl<W> Halves<W> {' "$inner
+pub fn inner() -> Inner {
+    Inner
+}
+
+impl<W> Halves<W> {"
+try "a type that a public name stands for" "ghost view: reaches $planted" networks/src/pairs.rt \
+    'impl<W> Halves<W> {' "$inner
+pub type Named = Halves<Inner>;
+
+impl<W> Halves<W> {"
+try "a member of a private trait" "ghost twisted: reaches $planted" networks/src/pairs.rt \
+    'impl<W> Halves<W> {' 'trait Twisted {
+    ghost twisted: { Self → Self };
+}
+
+impl Twisted for Halves<u32> {
+    ghost twisted = { planted };
+}
+
+impl<W> Halves<W> {'
+try "a member below a trait's functions that a clause names" "ghost lower: reaches $planted" networks/src/half_words.rt \
+    'ensures { result ≡ number_of self };
+
+    // what each implementation shows
+    ghost faithful: { Faithful Self.Word.fits word_of number_of };
+}
+
+impl HalfWord for u32 {' 'ensures { result ≡ lower self };
+
+    ghost lower: { Self → ℕ };
+
+    ghost faithful: { Faithful Self.Word.fits word_of number_of };
+}
+
+impl HalfWord for u32 {
+    ghost lower = { planted };
+'
 try "a definition that nothing reaches" "lonely is reached by no public contract" networks/specs/Halves.antt \
     '-- both halves are words' 'abbrev pub lonely : ℕ → ℕ
 lonely n = n
