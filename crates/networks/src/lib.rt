@@ -4,9 +4,9 @@
 // answers what the definition of the network says, and `run_four` the same of four pairs of halves, which it works on side by
 // side; `turn` reverses the round words and inverts the function's values, and the turned network is the inverse; undoing the
 // rounds and running the turned network make the same of any halves, and the network makes these halves of it again (`undo`,
-// `ways_back`). `Schedule::new` and `first` answer none where there would be more than 64 words; no other call turns its caller
-// away. Words may be kept, and halves worked on, in another form than that of their definitions (`RoundFunction`, `HalfWord`);
-// contracts speak of what they stand for.
+// `ways_back`). `Schedule::new` and `first` answer none where there is room for more than 64 words; no other call turns its
+// caller away. Words may be kept, and halves worked on, in another form than that of their definitions (`RoundFunction`,
+// `HalfWord`); contracts speak of what they stand for.
 #![tactic(auto)]
 
 mod feistel;

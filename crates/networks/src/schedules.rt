@@ -5,7 +5,7 @@ use crate::functions::RoundFunction;
 use arrayvec::ArrayVec;
 use std::marker::{Model, PhantomData};
 
-// At most 64 words, and at most `N`, kept in the value itself, in the form in which the round function takes them. It is no
+// At most `N` words, which is at most 64, kept in the value itself, in the form in which the round function takes them. It is no
 // other name of the library's vector, so that nobody outside changes a word.
 #[derive(Drop)]
 pub struct Schedule<F: RoundFunction, const N: usize> {
@@ -41,11 +41,12 @@ fn reverse_items<const N: usize>(kept: &mut ArrayVec<u64, N>)
 }
 
 impl<F: RoundFunction, const N: usize> Schedule<F, N> {
-    // The words of all rounds, as they are kept. None where there are more than 64.
+    // The words of all rounds, as they are kept. None where there is room for more than 64: the room is a number of the type,
+    // so that no test is left in compiled code.
     pub fn new(kept: ArrayVec<u64, N>) -> Option<Schedule<F, N>>
-        ensures { MatchOption result (64 < length kept.entry.items) (λ schedule. schedule ≡ map F.RoundFunction.word_of kept.entry.items) }
+        ensures { MatchOption result (64 < N) (λ schedule. schedule ≡ map F.RoundFunction.word_of kept.entry.items) }
     {
-        if kept.len() <= 64 {
+        if N <= 64 {
             Some(Schedule {
                 kept,
                 function: PhantomData,
@@ -56,10 +57,10 @@ impl<F: RoundFunction, const N: usize> Schedule<F, N> {
     }
 
     // The first `count` of the words, or all where `count` is larger. The array is a whole table of words, and the count
-    // says how much of it to take. None where that is more than 64.
+    // says how much of it to take. None where the table is of more than 64.
     #[tactic(auto, using(crate::proofs::Kept::map_take))]
     pub fn first(count: usize, words: [u64; N]) -> Option<Schedule<F, N>>
-        ensures { MatchOption result (64 < min count N) (λ schedule. schedule ≡ take (min count N) (map F.RoundFunction.word_of words.entry)) }
+        ensures { MatchOption result (64 < N) (λ schedule. schedule ≡ take (min count N) (map F.RoundFunction.word_of words.entry)) }
     {
         Schedule::new(first_items(count, words))
     }
