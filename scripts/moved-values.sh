@@ -50,7 +50,7 @@ any seal-held "$(moved cipher)" 'let _bench = Bench::new(cipher); cipher.seal(bl
 any seal-taken-apart accepted 'let bench = Bench::new(cipher); let cipher = bench.into_cipher(); cipher.seal(block)'
 
 # XTEA.
-xtea() { try "$1" "$2" transcripts return_trip.rt "use ciphers::Cipher; pub fn tried(key: &[u8; 16], block: u64) -> u64 { let mut cipher = full_xtea(key); $3 }"; }
+xtea() { try "$1" "$2" transcripts return_trip.rt "pub fn tried(key: &[u8; 16], block: u64) -> u64 { let mut cipher = full_xtea(key); $3 }"; }
 xtea turn-before accepted 'cipher.turn(); let bench = Bench::new(cipher); bench.into_cipher().seal(block)'
 xtea turn-held "$(moved cipher)" 'let bench = Bench::new(cipher); cipher.turn(); bench.into_cipher().seal(block)'
 xtea bench-before accepted 'cipher.turn(); let mut bench = Bench::new(cipher); bench.turn(); bench.into_cipher().seal(block)'
