@@ -1,5 +1,5 @@
 // Feistel networks over any group and round function.
-ghost use Rattle.std.specs.Prelude.{◌≡◌, false, if◌then◌else◌};
+ghost use Rattle.std.specs.Prelude.{◌≡◌, ◌≤◌, false, length, if◌then◌else◌};
 ghost use Rattle.networks.specs.Fours.{each};
 ghost use Rattle.networks.specs.Halves.{Words};
 ghost use Rattle.networks.specs.Inverses.{Inverses};
@@ -38,6 +38,14 @@ impl<G: Group, F: RoundFunction<Half = G::Word>, const N: usize> Feistel<G, F, N
             inverted: false,
             group: PhantomData,
         }
+    }
+
+    // How many rounds there are. It tells whoever borrows a network that they are 64 at most, since nothing lends its schedule.
+    pub fn round_count(&self) -> usize
+        ensures value { result ≡ length (network G.Group F.RoundFunction self.now).words }
+        ensures few { result ≤ 64 }
+    {
+        self.schedule.kept().len()
     }
 
     // A value of the round function, or its inverse in the group where the network is turned. Whether it is turned is a
