@@ -13,3 +13,4 @@ mod rounding;
 
 pub use cipher::Xtea;
 pub use cycles::Cycles;
+pub use rounding::XteaRound;

@@ -7,7 +7,7 @@ ghost use Rattle.xtea.specs.Xtea.{mixed};
 use networks::RoundFunction;
 
 #[derive(Clone, Copy)]
-pub(crate) struct XteaRound;
+pub struct XteaRound;
 
 impl RoundFunction for XteaRound {
     type Half = u32;
