@@ -1,3 +1,4 @@
+pub mod Alone
 pub mod Below
 pub mod Examples
 pub mod Four

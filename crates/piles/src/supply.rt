@@ -3,7 +3,7 @@ ghost use Rattle.std.specs.Prelude.{◌≡◌, ◌≤◌, ℕ, ◌^◌, ◌<◌,
 ghost use Rattle.std.specs.List.{sum_by};
 ghost use Rattle.ciphers.specs.Maps.{SameMap};
 ghost use Rattle.plans.specs.Stages.{key_length};
-ghost use Rattle.piles.specs.Keyed.{sealed_by_all};
+ghost use Rattle.piles.specs.Keyed.{sealed_by, sealed_by_all};
 ghost use Rattle.piles.specs.internal.Layers.{layered};
 
 use crate::layers::Layer;
@@ -41,15 +41,47 @@ impl<'a> Supply<'a> {
     }
 }
 
+// Puts the layer of a stage, which takes all of the key, in the first of the places, and empty ones in the others. A call
+// of its own, as `fill` is: a function pays at entry for the room of its locals, and one stage needs a single layer's.
+#[inline(never)]
+fn fill_one(layers: &mut Layers, stage: Stage, key: &[u8])
+    requires { length key.now ≡ key_length stage }
+    ensures { SameMap (⟦<Layers as Cipher>⟧.map layers.new) (sealed_by stage key.now) }
+{
+    *layers = Pair::new(
+        Pair::new(Layer::new(stage, key), Layer::Empty),
+        Pair::new(Layer::Empty, Layer::Empty),
+    );
+}
+
+// Puts the layers of some stages, each with its bytes of the key, in the places.
+#[inline(never)]
+fn fill(layers: &mut Layers, stages: &[Stage], key: &[u8])
+    requires few { length stages.now ≤ 4 }
+    requires enough { length key.now ≡ sum_by key_length stages.now }
+    ensures { SameMap (⟦<Layers as Cipher>⟧.map layers.new) (sealed_by_all stages.now key.now) }
+{
+    let mut supply = Supply { stages, key };
+    *layers = Pair::new(
+        Pair::new(supply.next(), supply.next()),
+        Pair::new(supply.next(), supply.next()),
+    );
+}
+
 // The layers of some stages, each with its bytes of the key.
+#[tactic(auto, using(crate::proofs::Alone::alone))]
 pub(crate) fn layers(stages: &[Stage], key: &[u8]) -> Layers
     requires few { length stages.now ≤ 4 }
     requires enough { length key.now ≡ sum_by key_length stages.now }
     ensures { SameMap (⟦<Layers as Cipher>⟧.map result) (sealed_by_all stages.now key.now) }
 {
-    let mut supply = Supply { stages, key };
-    Pair::new(
-        Pair::new(supply.next(), supply.next()),
-        Pair::new(supply.next(), supply.next()),
-    )
+    let mut layers = Pair::new(
+        Pair::new(Layer::Empty, Layer::Empty),
+        Pair::new(Layer::Empty, Layer::Empty),
+    );
+    match stages {
+        [stage] => fill_one(&mut layers, *stage, key),
+        _ => fill(&mut layers, stages, key),
+    }
+    layers
 }

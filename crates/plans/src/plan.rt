@@ -101,8 +101,10 @@ fn plan_of(description: &[u8]) -> Result<Plan, Refusal>
 }
 
 // The plan that a description names. What a plan is written as is read as that plan, whatever spaces stand before its
-// stages, between them and behind them.
+// stages, between them and behind them. Not inlined, since whoever makes a pile of the plan then clears and copies the pile's
+// room less often.
 #[tactic(auto, using(crate::proofs::Written::written, crate::proofs::Written::written_apart))]
+#[inline(never)]
 pub fn read(description: &[u8]) -> Result<Plan, Refusal>
     ensures value { result ≡ plan_of description.now }
     ensures written { (stages : List Stage) → Lawful stages → description.now ≡ described stages → result ≡ Ok stages }
