@@ -3,7 +3,6 @@ ghost use Rattle.std.specs.Prelude.{◌≡◌, ◌≤◌, false, length, if◌th
 ghost use Rattle.networks.specs.Fours.{each};
 ghost use Rattle.networks.specs.Halves.{Words};
 ghost use Rattle.networks.specs.Inverses.{Inverses};
-ghost use Rattle.networks.specs.Networks.{network};
 ghost use Rattle.networks.specs.Rounds.{applied, round, rounds, unround, unrounds, ran, unran, turned};
 ghost use Rattle.networks.specs.internal.Abreast.{rounds_abreast};
 
@@ -24,9 +23,13 @@ pub struct Feistel<G: Group, F: RoundFunction<Half = G::Word>, const N: usize> {
     schedule: Schedule<F, N>,
     inverted: bool,
     group: PhantomData<G>,
+    // said here too, since the invariant of a schedule is not told to whoever borrows a network
+    ghost few: { length schedule ≤ 64 },
 }
 
 impl<G: Group, F: RoundFunction<Half = G::Word>, const N: usize> Feistel<G, F, N> {
+    ghost use Rattle.networks.specs.Networks.{network};
+
     pub fn new(function: F, schedule: Schedule<F, N>) -> Self
         ensures function { result.function ≡ function }
         ensures words { result.schedule ≡ schedule }
@@ -38,14 +41,6 @@ impl<G: Group, F: RoundFunction<Half = G::Word>, const N: usize> Feistel<G, F, N
             inverted: false,
             group: PhantomData,
         }
-    }
-
-    // How many rounds there are. It tells whoever borrows a network that they are 64 at most, since nothing lends its schedule.
-    pub fn round_count(&self) -> usize
-        ensures value { result ≡ length (network G.Group F.RoundFunction self.now).words }
-        ensures few { result ≤ 64 }
-    {
-        self.schedule.kept().len()
     }
 
     // A value of the round function, or its inverse in the group where the network is turned. Whether it is turned is a
